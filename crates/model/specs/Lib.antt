@@ -1,0 +1,6 @@
+pub mod Language
+pub mod Machine
+pub mod Distance
+pub mod Pattern
+pub mod Configuration
+pub mod Sample
