@@ -1,0 +1,83 @@
+-- `text::read_digits` meets its contract: the field is read as the digits from i on are, behind the size so far.
+use mathlib.Core.Path.{_≡_, refl, sym, ap, _∙_}
+use Prim.Native.Nat.{_-_, _≤_}
+use native.Mathlib.Omega.{arith}
+use denote.Ref.{now}
+use lib.ListN.{length, drop}
+use mir.Syntax.{w64}
+use mir.Facts.{toZ-pos}
+use Rattle.text.specs.declared.Number.the-variants.{Value}
+use Rattle.text.specs.Number.{digitsAfter}
+use Rattle.text.specs.Capped.{cap, numberOf}
+use Rattle.text.proofs.Digits.{answer, capped-so-far, digits-end, digit-at, low-at, high-at}
+use Rattle.text.proofs.read_digits.Statement.{statement}
+use Rattle.text.proofs.read_digits.Tie as tie
+
+abbrev Inv-loop : tie.InvT-loop
+Inv-loop f n₀ i₀ n i = (i ≤ length f) × (n ≤ cap) × (answer (digitsAfter n (drop i f)) ≡ answer (digitsAfter 0 f))
+
+abbrev μ-loop : tie.MeasureT-loop
+μ-loop f n₀ i₀ n i = length f - i
+
+loop-holds : tie.Need-loop-holds Inv-loop μ-loop
+loop-holds c = (omega arith, omega arith, refl)
+
+shared-slice-read-b : tie.Need-shared-slice-read-b Inv-loop μ-loop
+shared-slice-read-b c = omega arith
+
+returns : tie.Need-returns Inv-loop μ-loop
+unfolding numberOf
+returns c =
+    let f = now (c .before .before .before .before .before .args .f) in
+    let l = c .before .before .before .loop in
+    sym (ap answer (low-at f (l .i) (l .n) (omega arith) (c .if1 .taken))) ∙ l .inv .2
+
+returns-2 : tie.Need-returns-2 Inv-loop μ-loop
+unfolding numberOf
+returns-2 c =
+    let f = now (c .before .before .before .before .before .before .args .f) in
+    let l = c .before .before .before .before .loop in
+    sym (ap answer (high-at f (l .i) (l .n) (omega arith) (c .if2 .taken))) ∙ l .inv .2
+
+with-digit-requires : tie.Need-with-digit-requires Inv-loop μ-loop
+with-digit-requires c κs = omega arith
+
+add-i : tie.Need-add-i Inv-loop μ-loop
+add-i c = omega arith
+
+loop-less : tie.Need-loop-less Inv-loop μ-loop
+loop-less c = omega arith
+
+loop-again : tie.Need-loop-again Inv-loop μ-loop
+loop-again c =
+    let f = now (c .before .before .before .before .before .before .before .args .f) in
+    let l = c .before .before .before .before .before .loop in
+    let more = digit-at f (l .i) (l .n) (omega arith) (c .before .before .if1 .left) (c .before .if2 .left) in
+    let n = c .with-digit .ensures in
+    (omega arith, omega arith, rw n (capped-so-far _ _ ∙ sym (ap answer more) ∙ l .inv .2))
+
+cast-t9 : tie.Need-cast-t9 Inv-loop μ-loop
+cast-t9 c = record { sfits = omega arith }
+
+returns-3 : tie.Need-returns-3 Inv-loop μ-loop
+returns-3 c =
+    let f = now (c .before .before .before .args .f) in
+    let l = c .before .loop in
+    ap Value (toZ-pos w64 (omega arith)) ∙ sym (digits-end f (l .i) (l .n) (omega arith) (l .inv .1)) ∙ l .inv .2
+
+pub read-digits-spec : {M : Type 1} → statement M
+read-digits-spec =
+    tie.close
+    (tie.spec
+    Inv-loop
+    μ-loop
+    loop-holds
+    shared-slice-read-b
+    returns
+    returns-2
+    with-digit-requires
+    add-i
+    loop-less
+    loop-again
+    cast-t9
+    returns-3)

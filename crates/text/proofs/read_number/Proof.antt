@@ -1,0 +1,110 @@
+-- `text::read_number` meets its contract: each return is a law of `numeral` at the code's tests.
+use mathlib.Core.Path.{_≡_, sym, ap, _∙_}
+use mathlib.Core.Option.{Option}
+use Prim.Native.Nat.{ℕ}
+use native.Mathlib.Omega.{arith}
+use borrow.Author.Needs.{needs}
+use borrow.Author.Tests.{not-true, not-false}
+use denote.Ref.{now}
+use Rattle.text.specs.declared.Number.the-variants.{Value}
+use Rattle.text.specs.Number.{natural, negative, numeral}
+use Rattle.text.specs.Capped.{numberOf}
+use Rattle.text.proofs.Digits.{answer, behind, numeral-empty, numeral-plain, numeral-barred, numeral-minus}
+use Rattle.text.proofs.Digits.{minus-bad, minus-fits, minus-zero, minus-value}
+use Rattle.text.proofs.read_number.Statement.{statement}
+use Rattle.text.proofs.read_number.Tie as tie
+
+returns : tie.Need-returns
+unfolding numberOf
+returns c =
+    let a = c .before .before .args in
+    sym (ap numberOf (numeral-empty (a .minus) (now (a .f)) (c .if1 .taken)))
+
+shared-slice-read-if2 : tie.Need-shared-slice-read-if2
+shared-slice-read-if2 c = search needs
+
+read-natural-requires : tie.Need-read-natural-requires
+read-natural-requires c κs = search needs
+
+returns-2 : tie.Need-returns-2
+returns-2 c =
+    let a = c .before .before .before .before .before .args in
+    c .read-natural .ensures ∙ sym (ap numberOf (numeral-plain (a .minus) (now (a .f)) (omega arith) (c .before .if2 .taken)))
+
+returns-3 : tie.Need-returns-3
+unfolding numberOf
+returns-3 c =
+    let a = c .before .before .before .before .before .args in
+    sym (ap numberOf (numeral-barred (a .minus) (now (a .f)) (omega arith) (c .before .if2 .left) (not-true _ (c .if3 .taken))))
+
+sub-read-natural : tie.Need-sub-read-natural
+sub-read-natural c = search needs
+
+part-read-natural-start : tie.Need-part-read-natural-start
+part-read-natural-start c = search needs
+
+part-read-natural-end : tie.Need-part-read-natural-end
+part-read-natural-end c = search needs
+
+read-natural-requires-2 : tie.Need-read-natural-requires-2
+read-natural-requires-2 c κs = search needs
+
+-- what stands behind the minus, read as a size; the field is that size below 0
+abbrev size : tie.After-read-natural2 → Option ℕ
+size c = natural (behind (now (c .before .before .before .before .before .before .before .args .f)))
+
+below : (c : tie.After-read-natural2) →
+    let a = c .before .before .before .before .before .before .before .args in
+    numberOf (negative (size c)) ≡ numberOf (numeral (a .minus) (now (a .f)))
+below c =
+    let a = c .before .before .before .before .before .before .before .args in
+    let e = c .before .before .before .if2 .left in
+    sym (ap numberOf (numeral-minus (a .minus) (now (a .f)) (omega arith) e (not-false _ (c .before .before .if3 .left))))
+
+enum-known-size : tie.Need-enum-known-size
+enum-known-size c = search needs
+
+-- the size that the code holds
+held : (c : tie.After-size) → answer (size (c .before .before)) ≡ Value (c .size .given .0 .0)
+held c = sym (c .before .before .read-natural2 .ensures) ∙ c .size .given .1
+
+returns-4 : tie.Need-returns-4
+returns-4 c =
+    let r = c .before .before .before .before in
+    minus-zero (size r) _ (held (c .before .before)) (c .if4 .taken) ∙ below r
+
+sub-t14 : tie.Need-sub-t14
+sub-t14 c = minus-fits (size (c .before .before .before .before)) _ (held (c .before .before))
+
+enum-told : tie.Need-enum-told
+enum-told c = search needs
+
+returns-5 : tie.Need-returns-5
+returns-5 c =
+    let r = c .before .before .before .before in
+    minus-value (size r) _ (held (c .before .before)) (c .if4 .left) ∙ below r
+
+returns-6 : tie.Need-returns-6
+returns-6 c =
+    let r = c .before .before in
+    minus-bad (size r) (sym (r .read-natural2 .ensures) ∙ c .enum-told .given .1) ∙ below r
+
+pub read-number-spec : {M : Type 1} → statement M
+read-number-spec =
+    tie.close
+    (tie.spec
+    returns
+    shared-slice-read-if2
+    read-natural-requires
+    returns-2
+    returns-3
+    sub-read-natural
+    part-read-natural-start
+    part-read-natural-end
+    read-natural-requires-2
+    enum-known-size
+    returns-4
+    sub-t14
+    enum-told
+    returns-5
+    returns-6)

@@ -1,0 +1,4 @@
+pub mod Bytes
+pub mod Split
+pub mod Number
+pub mod Capped
