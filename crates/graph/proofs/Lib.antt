@@ -1,0 +1,10 @@
+pub mod Counting
+pub mod Table
+pub mod Distances
+pub mod Complete
+pub mod Wanted
+pub mod Search
+pub mod Refusal
+pub mod Chain
+pub mod Bisimulation
+pub mod Examples
