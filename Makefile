@@ -6,10 +6,11 @@ FLOW ?= flows/a.flow
 .PHONY: report test
 
 report:
-	@echo "The program report does not exist yet: this repository reads flow texts and has no search." >&2
+	@echo "make report: the program report does not exist yet; so far this repository reads flow texts." >&2
 	@false
 
 test:
 	@tools/listed
 	@rt fmt --check
+	@python3 tests/readings.py
 	@rt ci

@@ -25,7 +25,7 @@ capped-bounded (pos n) = omega arith
 capped-bounded (negsuc n) = omega arith
 
 -- ---- tests that tell nothing apart from the cap on
-test-cut : (test : ℕ → Bool) (out : Bool) (m n : ℕ) → ((k : ℕ) → m ≤ k → test k ≡ out) → test (min n m) ≡ test n
+pub test-cut : (test : ℕ → Bool) (out : Bool) (m n : ℕ) → ((k : ℕ) → m ≤ k → test k ≡ out) → test (min n m) ≡ test n
 test-cut test out m n beyond = by (decLe n m)
   where
     by : Dec (n ≤ m) → test (min n m) ≡ test n

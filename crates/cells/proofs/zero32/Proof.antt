@@ -1,0 +1,54 @@
+-- `cells::zero32` meets its contract: proofs/Zeroing.antt. The measure is what is left of the row.
+use Prim.Native.Nat.{_-_}
+use native.Mathlib.Omega.{arith}
+use mathlib.Core.Path.{refl}
+use borrow.Author.Needs.{needs}
+use lib.ListN.{length}
+use Rattle.cells.proofs.Zeroing.{ZeroedTo, zeroed-more, zeroed-all}
+use Rattle.cells.proofs.zero32.Statement.{statement}
+use Rattle.cells.proofs.zero32.Tie as tie
+
+abbrev Inv-loop : tie.InvT-loop
+Inv-loop row₀ i₀ row i = ZeroedTo row₀ row i
+
+abbrev μ-loop : tie.MeasureT-loop
+μ-loop row₀ i₀ row i = length row₀ - i
+
+loop-holds : tie.Need-loop-holds Inv-loop μ-loop
+loop-holds c = record { within = omega arith; size = refl; is = refl }
+
+mul-row : tie.Need-mul-row Inv-loop μ-loop
+mul-row c = search needs
+
+slice-write-row : tie.Need-slice-write-row Inv-loop μ-loop
+slice-write-row c = search needs
+
+add-i : tie.Need-add-i Inv-loop μ-loop
+add-i c = search needs
+
+loop-less : tie.Need-loop-less Inv-loop μ-loop
+loop-less c = search needs
+
+loop-again : tie.Need-loop-again Inv-loop μ-loop
+loop-again c = zeroed-more _ _ _ (c .before .loop .inv) (omega arith)
+
+same-length : tie.Need-same-length Inv-loop μ-loop
+same-length c = c .before .loop .inv .size
+
+returns : tie.Need-returns Inv-loop μ-loop
+returns c = zeroed-all _ _ _ (c .before .loop .inv) (c .loop-test .left)
+
+pub zero32-spec : {M : Type 1} → statement M
+zero32-spec =
+    tie.close
+    (tie.spec
+    Inv-loop
+    μ-loop
+    loop-holds
+    mul-row
+    slice-write-row
+    add-i
+    loop-less
+    loop-again
+    same-length
+    returns)

@@ -1,0 +1,47 @@
+-- The entries that the rows hold: a node, its distance and its parent each. Machinery: inner contracts cite it, no promise does.
+use mathlib.Core.Path.{_≡_}
+use mathlib.Core.Bool.{false}
+use mathlib.Core.List.{List}
+use Prim.Native.Nat.{ℕ, _≤_}
+use lib.ListN.{length, getD, set}
+use Rattle.cells.specs.Index.{Node, nodeAt, Indexed}
+use Rattle.cells.specs.Marks.{isMarked}
+
+pub record Entries : Type 0 where
+  pub places : List ℕ
+  pub patterns : List ℕ
+  pub distances : List ℕ
+  pub parents : List ℕ
+
+abbrev pub entries : List ℕ → List ℕ → List ℕ → List ℕ → Entries
+entries a b c d = record { places = a; patterns = b; distances = c; parents = d }
+
+abbrev pub nodeOf : Entries → ℕ → Node
+nodeOf e i = nodeAt (e .places) (e .patterns) i
+
+abbrev pub distanceOf : Entries → ℕ → ℕ
+distanceOf e i = getD (e .distances) i 0
+
+abbrev pub parentOf : Entries → ℕ → ℕ
+parentOf e i = getD (e .parents) i 0
+
+-- the first count of the cells hold entries, and the index leads to each
+pub record Filled (e : Entries) (heads nexts : List ℕ) (count cells : ℕ) : Type 0 where
+  pub index : Indexed (e .places) (e .patterns) heads nexts count cells
+  pub distance-room : cells ≤ length (e .distances)
+  pub parent-room : cells ≤ length (e .parents)
+
+-- e′ is e with one entry more, the node x as entry count
+pub record Added (e e′ : Entries) (count : ℕ) (x : Node) (distance parent : ℕ) : Type 0 where
+  pub places : e′ .places ≡ set (e .places) count (x .place)
+  pub patterns : e′ .patterns ≡ set (e .patterns) count (x .pattern)
+  pub distances : e′ .distances ≡ set (e .distances) count distance
+  pub parents : e′ .parents ≡ set (e .parents) count parent
+
+-- the start is the only entry, and nothing is marked
+pub record Begun (e : Entries) (heads nexts fans : List ℕ) (cells : ℕ) (start : Node) : Type 0 where
+  pub filled : Filled e heads nexts 1 cells
+  pub node : nodeOf e 0 ≡ start
+  pub distance : distanceOf e 0 ≡ 0
+  pub parent : parentOf e 0 ≡ 0
+  pub unmarked : (i v : ℕ) → isMarked fans i v ≡ false

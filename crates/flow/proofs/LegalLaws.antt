@@ -1,0 +1,85 @@
+-- A text that is read gives a legal flow, and the rows that hold a flow give it back.
+use mathlib.Core.Path.{_≡_, refl, sym, ap, ap₂, _∙_, subst}
+use mathlib.Core.Bool.{Bool, true, false}
+use mathlib.Core.List.{List, [], _∷_, _++_, map, map-map}
+use mathlib.Core.Option.{Option, none, some}
+use Prim.Native.Nat.{ℕ, zero, suc, _-_, _≤_}
+use native.Mathlib.Omega.{arith}
+use borrow.Author.Tests.{leb-true}
+use lib.Dec.{leb, eqb}
+use lib.ListN.{length, getD, take, drop, replicate, length-map}
+use lib.Seq.{take-at}
+use Rattle.model.specs.Language.{Instruction, stop, Flow, fields, instruction}
+use Rattle.text.specs.Split.{lines, fields as split}
+use Rattle.flow.specs.Limits.{maxBytes, maxInstructions}
+use Rattle.flow.specs.Read.{Checked, ok, fault, check, after, unless, inRange, isNamed, all, readHead, readLines, lostTarget, readRest, readFlow}
+use Rattle.flow.specs.Code.{rowOf, instructionOf, rowsOf, flowOf}
+use Rattle.flow.specs.Legal.{Legal, head}
+use Rattle.flow.specs.Inner.{HeadFits}
+use Rattle.flow.specs.declared.Head.{Head}
+use Rattle.flow.specs.declared.Refusal.{Refusal}
+use Rattle.flow.specs.declared.Refusal.the-variants.{TooLong, NoBytes, NoLastEnd, NoInstruction, NoSuchTarget}
+use Rattle.flow.proofs.RowLaws.{row-back}
+use Rattle.flow.proofs.HeadLaws.{head-read-fits}
+use Rattle.flow.proofs.ReadLaws.{check-ok, after-ok, fault-not-ok, AllFit, lines-fit, at-most-64, none-lost}
+
+-- what stands at every instruction of the list stands at every number
+at-number : (P : Instruction → Type 0) → P stop → (xs : List Instruction) → ((j : ℕ) → P (getD xs j stop)) → (i : ℕ) → P (getD (stop ∷ xs) i stop)
+at-number P base xs h zero = base
+at-number P base xs h (suc i) = h i
+
+unless-ok : {A : Type 0} (o : Option ℕ) (r : ℕ → Refusal) (rest : Checked A) {x : A} → unless o r rest ≡ ok x → (o ≡ none) × (rest ≡ ok x)
+unless-ok none r rest e = (refl, e)
+unless-ok (some n) r rest e = absurd (fault-not-ok e)
+
+abbrev made : Head → List Instruction → Flow
+made h xs = record { tapes = h .tapes; outputs = h .outputs; variables = h .variables; instructions = xs }
+
+rest-legal : (h : Head) → HeadFits h → (ls : List (List ℕ)) (flow : Flow) → readRest h ls ≡ ok flow → Legal flow
+unfolding readRest all
+rest-legal h f ls flow e =
+    let (xs, read, e₁) = after-ok (readLines h 1 ls) judge e in
+    let (any, e₂) = check-ok (leb 1 (length xs)) NoInstruction (unless (lostTarget (length xs) 2 xs) NoSuchTarget (ok (made h xs))) e₁ in
+    let (named, e₃) = unless-ok (lostTarget (length xs) 2 xs) NoSuchTarget (ok (made h xs)) e₂ in
+    let same : made h xs ≡ flow = cc in
+    subst Legal same
+    (record {
+      tapes = f .tapes;
+      outputs = f .outputs;
+      variables = f .variables;
+      size = (leb-true 1 (length xs) any, at-most-64 h ls xs read);
+      ranges = at-number (λ x. all (inRange h) (fields x) ≡ true) refl xs (lines-fit h 1 ls xs read);
+      targets = at-number (λ x. all (isNamed (length xs)) (fields x) ≡ true) refl xs (none-lost (length xs) 2 xs named);
+    })
+  where
+    judge : List Instruction → Checked Flow
+    judge xs = check (leb 1 (length xs)) NoInstruction (unless (lostTarget (length xs) 2 xs) NoSuchTarget (ok (made h xs)))
+
+pub read-legal : (text : List ℕ) (flow : Flow) → readFlow text ≡ ok flow → Legal flow
+unfolding readFlow
+read-legal text flow e =
+    let (short, e₁) = check-ok (leb (length text) maxBytes) TooLong (check (leb 1 (length text)) NoBytes (check last NoLastEnd by-lines)) e in
+    let (any, e₂) = check-ok (leb 1 (length text)) NoBytes (check last NoLastEnd by-lines) e₁ in
+    let (ended, e₃) = check-ok last NoLastEnd by-lines e₂ in
+    let (h, headed, e₄) = after-ok (readHead (split (getD (lines text) 0 []))) (λ h. readRest h (drop 1 (lines text))) e₃ in
+    rest-legal h (head-read-fits (split (getD (lines text) 0 [])) h headed) (drop 1 (lines text)) flow e₄
+  where
+    last : Bool
+    last = eqb (getD text (length text - 1) 0) 10
+
+    by-lines : Checked Flow
+    by-lines = after (readHead (split (getD (lines text) 0 []))) (λ h. readRest h (drop 1 (lines text)))
+
+-- ---- the rows give the flow back
+rows-hold : (xs : List Instruction) → map instructionOf (map rowOf xs) ≡ xs
+rows-hold [] = refl
+rows-hold (x ∷ xs) = ap₂ _∷_ (row-back x) (rows-hold xs)
+
+pub flow-back : (flow : Flow) → flowOf (rowsOf flow) ≡ flow
+unfolding flowOf rowsOf
+flow-back flow =
+    ap (λ (xs : List Instruction). record { tapes = flow .tapes; outputs = flow .outputs; variables = flow .variables; instructions = xs })
+    (ap (map instructionOf) (take-at (map rowOf xs) (replicate (maxInstructions - length xs) (rowOf stop)) (length xs) (length-map xs rowOf)) ∙ rows-hold xs)
+  where
+    xs : List Instruction
+    xs = flow .instructions

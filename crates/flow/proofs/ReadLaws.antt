@@ -1,0 +1,159 @@
+-- What reading gives: the checks that an answer has passed, the answer by rows, and what a legal flow is worth.
+use mathlib.Core.Path.{_≡_, refl, sym, ap, ap₂, _∙_, subst}
+use mathlib.Core.Bool.{Bool, true, false, cond, _&&_, false≢true}
+use mathlib.Core.List.{List, [], _∷_, _++_, map}
+use mathlib.Core.Option.{Option, none, some}
+use Prim.Native.Nat.{ℕ, zero, suc, _+_, _-_, _≤_, _<_}
+use native.Mathlib.Omega.{arith}
+use native.Mathlib.Numerals.{add-one}
+use borrow.Author.Tests.{leb-true, eqb-true, ne-eqb, eq-eqb, le-leb, lt-leb}
+use lib.Dec.{leb, eqb}
+use lib.IntN.{ℤ}
+use lib.ListN.{length, getD, take, drop, length-map, List·getD-map, drop-of-length-le}
+use lib.Seq.{drop-cons, getD-take, length-take-le}
+use Rattle.model.specs.Language.{Instruction, stop, Flow, Field, fields, instruction}
+use Rattle.text.specs.Split.{fields as split}
+use Rattle.text.specs.Number.{natural}
+use Rattle.flow.specs.Limits.{maxInstructions}
+use Rattle.flow.specs.Words.{kindOf, constantAt, built}
+use Rattle.flow.specs.Read.{Checked, ok, fault, check, given, after, unless, inRange, isNamed, all, numerals, headOf, readHead, readLine, readLines, lostTarget, readRest, readFlow}
+use Rattle.flow.specs.Code.{row, rowOf, instructionOf, rowsOf, readingOf}
+use Rattle.flow.specs.Inner.{clamp, kept, answered, finished, HeadFits}
+use Rattle.flow.specs.declared.Kind.{Kind}
+use Rattle.flow.specs.declared.Refusal.{Refusal}
+use Rattle.flow.specs.declared.Refusal.the-variants.{UnknownWord, WrongCount, BadNumber, OutOfTurn, OutOfRange, TooManyLines, NoInstruction, NoSuchTarget}
+use Rattle.flow.specs.declared.Head.{Head}
+use Rattle.flow.specs.declared.Instruction.{Instruction as Row}
+use Rattle.flow.proofs.RowLaws.{row-back}
+use Rattle.flow.proofs.ClampLaws.{is-named-clamp, clamp-kept}
+
+-- ---- an answer that is no refusal has passed its checks
+pub fault-not-ok : {A : Type 0} {r : Refusal} {x : A} → fault r ≡ ok x → ⊥
+fault-not-ok e = let z : _≡_ {A = ℕ} 0 1 = cc in omega arith
+
+pub check-ok : {A : Type 0} (b : Bool) (r : Refusal) (rest : Checked A) {x : A} → check b r rest ≡ ok x → (b ≡ true) × (rest ≡ ok x)
+check-ok true r rest e = (refl, e)
+check-ok false r rest e = absurd (fault-not-ok e)
+
+pub given-ok : {A B : Type 0} (o : Option A) (r : Refusal) (rest : A → Checked B) {y : B} → given o r rest ≡ ok y → (x : A) × (o ≡ some x) × (rest x ≡ ok y)
+given-ok none r rest e = absurd (fault-not-ok e)
+given-ok (some x) r rest e = (x, refl, e)
+
+pub after-ok : {A B : Type 0} (a : Checked A) (rest : A → Checked B) {y : B} → after a rest ≡ ok y → (x : A) × (a ≡ ok x) × (rest x ≡ ok y)
+after-ok (ok x) rest e = (x, refl, e)
+after-ok (fault r) rest e = absurd (fault-not-ok e)
+
+-- ---- lines that are read keep to their ranges, and there are at most 64
+line-fits : (h : Head) (i : ℕ) (fs : List (List ℕ)) (x : Instruction) → readLine h i fs ≡ ok x → all (inRange h) (fields x) ≡ true
+unfolding readLine
+line-fits h i fs x e =
+    let (k, known, e₁) = given-ok (kindOf (getD fs 1 [])) (UnknownWord (i + 1)) by-kind e in
+    let (counted, e₂) = check-ok (eqb (length fs) (length (constantAt k) + 2)) (WrongCount (i + 1)) (by-number k) e₁ in
+    let (n, numbered, e₃) = given-ok (natural (getD fs 0 [])) (BadNumber (i + 1)) (by-numbers k) e₂ in
+    let (ns, written, e₄) = given-ok (numerals (constantAt k) (drop 2 fs)) (BadNumber (i + 1)) (by-turn k n) e₃ in
+    let (turn, e₅) = check-ok (eqb n i) (OutOfTurn (i + 1)) (by-range k ns) e₄ in
+    let (fit, e₆) = check-ok (all (inRange h) (fields (built k ns))) (OutOfRange (i + 1)) (ok (built k ns)) e₅ in
+    let same : built k ns ≡ x = cc in
+    subst (λ (y : Instruction). all (inRange h) (fields y) ≡ true) same fit
+  where
+    by-range : Kind → List ℤ → Checked Instruction
+    by-range k ns = check (all (inRange h) (fields (built k ns))) (OutOfRange (i + 1)) (ok (built k ns))
+
+    by-turn : Kind → ℕ → List ℤ → Checked Instruction
+    by-turn k n ns = check (eqb n i) (OutOfTurn (i + 1)) (by-range k ns)
+
+    by-numbers : Kind → ℕ → Checked Instruction
+    by-numbers k n = given (numerals (constantAt k) (drop 2 fs)) (BadNumber (i + 1)) (by-turn k n)
+
+    by-number : Kind → Checked Instruction
+    by-number k = given (natural (getD fs 0 [])) (BadNumber (i + 1)) (by-numbers k)
+
+    by-kind : Kind → Checked Instruction
+    by-kind k = check (eqb (length fs) (length (constantAt k) + 2)) (WrongCount (i + 1)) (by-number k)
+
+-- every instruction of a list keeps to the ranges of line 1
+abbrev pub AllFit : Head → List Instruction → Type 0
+AllFit h xs = (j : ℕ) → all (inRange h) (fields (getD xs j stop)) ≡ true
+
+fit-more : (h : Head) (x : Instruction) (xs : List Instruction) → all (inRange h) (fields x) ≡ true → AllFit h xs → AllFit h (x ∷ xs)
+fit-more h x xs f fs zero = f
+fit-more h x xs f fs (suc j) = fs j
+
+-- a line that is read, and what comes after it
+pub record One (h : Head) (i : ℕ) (l : List ℕ) (ls : List (List ℕ)) (xs : List Instruction) : Type 0 where
+  pub x : Instruction
+  pub ys : List Instruction
+  pub few : i ≤ maxInstructions
+  pub line : readLine h i (split l) ≡ ok x
+  pub rest : readLines h (suc i) ls ≡ ok ys
+  pub whole : x ∷ ys ≡ xs
+
+one-read : (h : Head) (i : ℕ) (l : List ℕ) (ls : List (List ℕ)) (xs : List Instruction) → readLines h i (l ∷ ls) ≡ ok xs → One h i l ls xs
+unfolding readLines
+one-read h i l ls xs e =
+    let (few, e₁) = check-ok (leb i maxInstructions) TooManyLines (after (readLine h i (split l)) first) e in
+    let (x, line, e₂) = after-ok (readLine h i (split l)) first e₁ in
+    let (ys, rest, e₃) = after-ok (readLines h (suc i) ls) (λ ys. ok (x ∷ ys)) e₂ in
+    record { x = x; ys = ys; few = leb-true i maxInstructions few; line = line; rest = rest; whole = cc }
+  where
+    first : Instruction → Checked (List Instruction)
+    first x = after (readLines h (suc i) ls) (λ ys. ok (x ∷ ys))
+
+pub lines-fit : (h : Head) (i : ℕ) (ls : List (List ℕ)) (xs : List Instruction) → readLines h i ls ≡ ok xs → AllFit h xs
+unfolding readLines all
+lines-fit h i [] xs e = let none : [] ≡ xs = cc in subst (AllFit h) none (λ j. refl)
+lines-fit h i (l ∷ ls) xs e =
+    let o = one-read h i l ls xs e in
+    subst (AllFit h) (o .whole) (fit-more h (o .x) (o .ys) (line-fits h i (split l) (o .x) (o .line)) (lines-fit h (suc i) ls (o .ys) (o .rest)))
+
+few-lines : (h : Head) (i : ℕ) (ls : List (List ℕ)) (xs : List Instruction) → readLines h i ls ≡ ok xs → i ≤ 65 → i + length xs ≤ 65
+unfolding readLines
+few-lines h i [] xs e b = let none : [] ≡ xs = cc in omega (arith, ap length none)
+few-lines h i (l ∷ ls) xs e b =
+    let o = one-read h i l ls xs e in
+    omega (arith, ap length (o .whole), few-lines h (suc i) ls (o .ys) (o .rest) (omega arith))
+
+pub at-most-64 : (h : Head) (ls : List (List ℕ)) (xs : List Instruction) → readLines h 1 ls ≡ ok xs → length xs ≤ 64
+at-most-64 h ls xs e = omega (arith, few-lines h 1 ls xs e (omega arith))
+
+-- ---- targets
+pub lost-clamp : (n line : ℕ) → n < 255 → (xs : List Instruction) → lostTarget n line (map clamp xs) ≡ lostTarget n line xs
+unfolding lostTarget
+lost-clamp n line l [] = refl
+lost-clamp n line l (x ∷ xs) = rw (is-named-clamp n l x, lost-clamp n (suc line) l xs)
+
+pub none-lost : (n line : ℕ) (xs : List Instruction) → lostTarget n line xs ≡ none → (j : ℕ) → all (isNamed n) (fields (getD xs j stop)) ≡ true
+unfolding lostTarget all
+none-lost n line [] e j = refl
+none-lost n line (x ∷ xs) e j = go (all (isNamed n) (fields x)) refl e j (none-lost n (suc line) xs)
+  where
+    go : (b : Bool) → all (isNamed n) (fields x) ≡ b → cond b (lostTarget n (suc line) xs) (some line) ≡ none → (j : ℕ)
+        → (lostTarget n (suc line) xs ≡ none → (k : ℕ) → all (isNamed n) (fields (getD xs k stop)) ≡ true)
+        → all (isNamed n) (fields (getD (x ∷ xs) j stop)) ≡ true
+    go true h f zero rest = h
+    go true h f (suc j) rest = rest f j
+    go false h f j rest = let z : _≡_ {A = ℕ} 0 1 = cc in absurd (omega arith)
+
+-- the line of row i, looked at from there on
+module _ (n count : ℕ) (rows : List Row) (long : count ≤ length rows) where
+  abbrev held : List Instruction
+  held = map instructionOf (take count rows)
+
+  held-at : (i : ℕ) (d : Row) → i < count → drop i held ≡ instructionOf (getD rows i d) ∷ drop (suc i) held
+  held-at i d l =
+      drop-cons held i (instructionOf d) (omega (arith, length-map (take count rows) instructionOf, length-take-le count rows long))
+      ∙ ap (λ (x : Instruction). x ∷ drop (suc i) held) (List·getD-map instructionOf (take count rows) i d ∙ ap instructionOf (getD-take count rows i d l))
+
+  pub target-lost : (i : ℕ) (d : Row) → i < count → all (isNamed n) (fields (instructionOf (getD rows i d))) ≡ false
+      → some (i + 2) ≡ lostTarget n (i + 2) (drop i held)
+  unfolding lostTarget
+  target-lost i d l e = rw (held-at i d l, e)
+
+  pub target-named : (i : ℕ) (d : Row) → i < count → all (isNamed n) (fields (instructionOf (getD rows i d))) ≡ true
+      → lostTarget n (i + 1 + 2) (drop (i + 1) held) ≡ lostTarget n (i + 2) (drop i held)
+  unfolding lostTarget
+  target-named i d l e = let f : i + 1 + 2 ≡ suc (i + 2) = omega arith in rw (held-at i d l, e, f, add-one i)
+
+  pub targets-end : (i : ℕ) → count ≤ i → none ≡ lostTarget n (i + 2) (drop i held)
+  unfolding lostTarget
+  targets-end i l = rw (drop-of-length-le held {i = i} (omega (arith, length-map (take count rows) instructionOf, length-take-le count rows long)))

@@ -1,0 +1,7 @@
+pub mod Limits
+pub mod Words
+pub mod Refusals
+pub mod Read
+pub mod Code
+pub mod Inner
+pub mod Legal

@@ -1,0 +1,290 @@
+// A flow: its instructions, its limits, and the reading of its text.
+//
+// The limits stand in `Flow`, and nowhere else in the code. `read` is the reader: what it answers is what `readFlow` of
+// specs/Read.antt says of the text.
+mod words; // words.rt: the word of a line, and the fields that it asks for
+mod rows; // rows.rt: an instruction from the numbers of its line, and its ranges
+mod lines; // lines.rt: line 1, the instruction lines, the targets
+
+ghost use mathlib.Core.Path.{_≡_};
+ghost use mathlib.Core.Bool.{_&&_};
+ghost use Prim.Native.Nat.{_≤_};
+ghost use lib.ListN.{length, drop};
+ghost use lib.Signed.{leZ};
+ghost use Rattle.flow.specs.Limits.{leastConstant, greatestConstant};
+ghost use Rattle.flow.specs.Refusals.{numberOf, placeOf};
+ghost use Rattle.model.specs.Language.{stop};
+ghost use Rattle.text.specs.Split.{lines};
+ghost use Rattle.flow.specs.Read.{headOf, readRest, readFlow, fault};
+ghost use Rattle.flow.specs.Code.{row, rowOf, readingOf, rowsOf, noFlow};
+ghost use Rattle.flow.specs.Inner.{headIn, finished, HeadFits};
+use lines::Targets;
+
+// The kinds of instruction, by their words.
+pub enum Kind {
+    Read,
+    Put,
+    Copy,
+    Set,
+    Less,
+    Over,
+    Under,
+    Nop,
+    Stop,
+}
+
+// An instruction, kept whole: its kind, a tape, output or first variable, the variable, the constant, and where it goes on.
+pub struct Instruction {
+    pub kind: Kind,
+    pub a: u8,
+    pub v: u8,
+    pub c: i32,
+    pub p: u8,
+    pub m: u8,
+}
+
+// The counts of line 1: input tapes, output tapes, inner variables.
+pub struct Head {
+    pub tapes: u8,
+    pub outputs: u8,
+    pub variables: u8,
+}
+
+// What line 1 is read as.
+pub enum Headed {
+    Heads(Head),
+    Fault(Refusal),
+}
+
+// A flow: the counts of line 1, and the instructions in the order of their lines; rows past the count hold `stop`.
+pub struct Flow {
+    pub tapes: u8,
+    pub outputs: u8,
+    pub variables: u8,
+    pub count: usize,
+    pub instructions: [Instruction; Flow::MAX_INSTRUCTIONS],
+}
+
+// Why a flow text is turned back; a number is the line's.
+pub enum Refusal {
+    TooLong,
+    NoBytes,
+    NoLastEnd,
+    UnknownWord(usize),
+    WrongCount(usize),
+    BadNumber(usize),
+    OutOfRange(usize),
+    OutOfTurn(usize),
+    NoSuchTarget(usize),
+    TooManyLines,
+    NoInstruction,
+}
+
+// Whether a text was read.
+pub enum Answer {
+    Legal,
+    Refused(Refusal),
+}
+
+// What a text is read as: the flow, or the refusal and an empty flow.
+pub struct Reading {
+    pub answer: Answer,
+    pub flow: Flow,
+}
+
+impl Refusal {
+    // The number of a refusal.
+    pub fn number(self) -> usize
+        ensures { λ r. ⌜ r ≡ numberOf self ⌝ }
+    {
+        match self {
+            Refusal::TooLong => 1,
+            Refusal::NoBytes => 2,
+            Refusal::NoLastEnd => 3,
+            Refusal::UnknownWord(_) => 4,
+            Refusal::WrongCount(_) => 4,
+            Refusal::BadNumber(_) => 4,
+            Refusal::OutOfRange(_) => 5,
+            Refusal::OutOfTurn(_) => 6,
+            Refusal::NoSuchTarget(_) => 7,
+            Refusal::TooManyLines => 8,
+            Refusal::NoInstruction => 8,
+        }
+    }
+
+    // The place of a refusal.
+    pub fn place(self) -> usize
+        ensures { λ r. ⌜ r ≡ placeOf self ⌝ }
+    {
+        match self {
+            Refusal::TooLong => 0,
+            Refusal::NoBytes => 0,
+            Refusal::NoLastEnd => 0,
+            Refusal::UnknownWord(line) => line,
+            Refusal::WrongCount(line) => line,
+            Refusal::BadNumber(line) => line,
+            Refusal::OutOfRange(line) => line,
+            Refusal::OutOfTurn(line) => line,
+            Refusal::NoSuchTarget(line) => line,
+            Refusal::TooManyLines => Flow::MAX_INSTRUCTIONS + 2,
+            Refusal::NoInstruction => 2,
+        }
+    }
+}
+
+impl Flow {
+    pub const MAX_BYTES: usize = 4096;
+
+    pub const MAX_INSTRUCTIONS: usize = 64;
+
+    pub const MAX_TAPES: u8 = 3;
+
+    pub const MAX_OUTPUTS: u8 = 3;
+
+    pub const MAX_VARIABLES: u8 = 4;
+
+    pub const LEAST_CONSTANT: i32 = -1000;
+
+    pub const GREATEST_CONSTANT: i32 = 1000;
+
+    // The counts of line 1, if they lie in their ranges.
+    pub fn head(tapes: u8, outputs: u8, variables: u8) -> Headed
+        ensures { λ r. ⌜ headIn r ≡ headOf tapes outputs variables ⌝ }
+    {
+        let t = (1 <= tapes) & (tapes <= Flow::MAX_TAPES);
+        let o = outputs <= Flow::MAX_OUTPUTS;
+        let v = (1 <= variables) & (variables <= Flow::MAX_VARIABLES);
+        if t & (o & v) {
+            return Headed::Heads(Head {
+                tapes,
+                outputs,
+                variables,
+            });
+        }
+        Headed::Fault(Refusal::OutOfRange(1))
+    }
+
+    // Whether a constant lies in its range.
+    pub fn is_constant(c: i32) -> bool
+        ensures { λ r. ⌜ r ≡ (leZ leastConstant c && leZ c greatestConstant) ⌝ }
+    {
+        (Flow::LEAST_CONSTANT <= c) & (c <= Flow::GREATEST_CONSTANT)
+    }
+
+    // A flow with the counts of line 1 and some instructions.
+    pub fn new(
+        head: Head,
+        count: usize,
+        instructions: [Instruction; Flow::MAX_INSTRUCTIONS],
+    ) -> Self
+        ensures { λ r. ⌜ r ≡ record { tapes = head .tapes; outputs = head .outputs; variables = head .variables; count = count; instructions = instructions } ⌝ }
+    {
+        Flow {
+            tapes: head.tapes,
+            outputs: head.outputs,
+            variables: head.variables,
+            count,
+            instructions,
+        }
+    }
+
+    // A flow with nothing in it.
+    pub fn empty() -> Self
+        ensures { λ r. ⌜ r ≡ rowsOf noFlow ⌝ }
+    {
+        Flow::new(
+            Head {
+                tapes: 0,
+                outputs: 0,
+                variables: 0,
+            },
+            0,
+            [Instruction::stop(); Flow::MAX_INSTRUCTIONS],
+        )
+    }
+}
+
+impl Instruction {
+    pub fn new(kind: Kind, a: u8, v: u8, c: i32, p: u8, m: u8) -> Self
+        ensures { λ r. ⌜ r ≡ row kind a v c p m ⌝ }
+    {
+        Instruction {
+            kind,
+            a,
+            v,
+            c,
+            p,
+            m,
+        }
+    }
+
+    // `stop`, which also fills the rows past the last instruction.
+    pub fn stop() -> Self
+        ensures { λ r. ⌜ r ≡ rowOf stop ⌝ }
+    {
+        Instruction::new(Kind::Stop, 0, 0, 0, 0, 0)
+    }
+}
+
+// Reads a flow text.
+pub fn read(text: &[u8]) -> Reading
+    ensures { λ r. ⌜ r ≡ readingOf (readFlow (now (text .entry))) ⌝ }
+{
+    if Flow::MAX_BYTES < text.len() {
+        return refused(Refusal::TooLong);
+    }
+    if text.len() == 0 {
+        return refused(Refusal::NoBytes);
+    }
+    if text[text.len() - 1] != 10 {
+        return refused(Refusal::NoLastEnd);
+    }
+    let end = text::end_of(text, 0, 10);
+    let headed = lines::read_head(&text[..end]);
+    match headed {
+        Headed::Heads(head) => read_rest(text, end + 1, head),
+        Headed::Fault(r) => refused(r),
+    }
+}
+
+// The answer for a refusal.
+fn refused(r: Refusal) -> Reading
+    ensures { λ a. ⌜ a ≡ readingOf (fault r) ⌝ }
+{
+    Reading {
+        answer: Answer::Refused(r),
+        flow: Flow::empty(),
+    }
+}
+
+// The lines after line 1, and their targets.
+fn read_rest(text: &[u8], from: usize, head: Head) -> Reading
+    requires { ⌜ (from ≤ length (now text)) × HeadFits head ⌝ }
+    ensures { λ r. ⌜ r ≡ readingOf (readRest head (lines (drop from (now (text .entry))))) ⌝ }
+{
+    let read = lines::read_lines(text, from, head);
+    let answer = read.answer;
+    let rows = read.rows;
+    match answer {
+        Answer::Refused(r) => refused(r),
+        Answer::Legal => finish(head, read.count, rows),
+    }
+}
+
+// The flow of lines that are in order, if there are any and their targets are among them.
+fn finish(head: Head, count: usize, rows: [Instruction; Flow::MAX_INSTRUCTIONS]) -> Reading
+    requires { ⌜ count ≤ 64 ⌝ }
+    ensures { λ r. ⌜ (r ≡ finished head count rows) × (length rows ≡ 64) ⌝ }
+{
+    if count == 0 {
+        return refused(Refusal::NoInstruction);
+    }
+    let targets = lines::check_targets(rows, count);
+    match targets {
+        Targets::Lost(line) => refused(Refusal::NoSuchTarget(line)),
+        Targets::Named => Reading {
+            answer: Answer::Legal,
+            flow: Flow::new(head, count, rows),
+        },
+    }
+}

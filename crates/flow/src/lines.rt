@@ -1,0 +1,130 @@
+// Line 1, the instruction lines, and the targets that they name.
+ghost use mathlib.Core.Path.{_≡_};
+ghost use mathlib.Core.List.{map};
+ghost use Prim.Native.Nat.{_-_, _≤_};
+ghost use lib.ListN.{length, drop, take, replicate};
+ghost use Rattle.model.specs.Language.{stop};
+ghost use Rattle.text.specs.Split.{lines, fields};
+ghost use Rattle.flow.specs.Read.{readHead, readLines, lostTarget};
+ghost use Rattle.flow.specs.Code.{rowOf, instructionOf};
+ghost use Rattle.flow.specs.Inner.{headIn, lostIn, linesIn, kept, HeadFits};
+use crate::Answer;
+use crate::Flow;
+use crate::Head;
+use crate::Headed;
+use crate::Instruction;
+use crate::Refusal;
+use crate::rows;
+use crate::words;
+use crate::words::Word;
+use text::Number;
+
+// Line 1.
+pub fn read_head(line: &[u8]) -> Headed
+    ensures { λ r. ⌜ headIn r ≡ readHead (fields (now (line .entry))) ⌝ }
+{
+    if !text::same_word(text::field(line, 0), b"flow") {
+        return Headed::Fault(Refusal::UnknownWord(1));
+    }
+    if text::field_count(line) != 4 {
+        return Headed::Fault(Refusal::WrongCount(1));
+    }
+    let Number::Value(tapes) = text::read_number(text::field(line, 1), false) else {
+        return Headed::Fault(Refusal::BadNumber(1));
+    };
+    let Number::Value(outputs) = text::read_number(text::field(line, 2), false) else {
+        return Headed::Fault(Refusal::BadNumber(1));
+    };
+    let Number::Value(variables) = text::read_number(text::field(line, 3), false) else {
+        return Headed::Fault(Refusal::BadNumber(1));
+    };
+    Flow::head(
+        rows::small(tapes),
+        rows::small(outputs),
+        rows::small(variables),
+    )
+}
+
+// What the instruction lines are read as: rows past the count hold `stop`.
+pub struct Lines {
+    pub answer: Answer,
+    pub count: usize,
+    pub rows: [Instruction; Flow::MAX_INSTRUCTIONS],
+}
+
+// The instruction lines, which begin at `from`. The first line at fault names the refusal.
+pub fn read_lines(text: &[u8], from: usize, head: Head) -> Lines
+    requires { ⌜ (from ≤ length (now text)) × HeadFits head ⌝ }
+    ensures { λ r. ⌜ linesIn r ≡ kept (readLines head 1 (lines (drop from (now (text .entry))))) ⌝ }
+    ensures { λ r. ⌜ (r .count ≤ 64) × (drop (r .count) (r .rows) ≡ replicate (64 - r .count) (rowOf stop)) ⌝ }
+{
+    let mut rows = [Instruction::stop(); Flow::MAX_INSTRUCTIONS];
+    let mut count: usize = 0;
+    let mut at = from;
+    let answer = 'lines: loop {
+        if text.len() <= at {
+            break 'lines Answer::Legal;
+        }
+        if count == Flow::MAX_INSTRUCTIONS {
+            break 'lines Answer::Refused(Refusal::TooManyLines);
+        }
+        let end = text::end_of(text, at, 10);
+        let line = &text[at..end];
+        let Word::Known(kind) = words::kind_of(text::field(line, 1)) else {
+            break 'lines Answer::Refused(Refusal::UnknownWord(count + 2));
+        };
+        let width = words::width(kind);
+        if text::field_count(line) != width + 2 {
+            break 'lines Answer::Refused(Refusal::WrongCount(count + 2));
+        }
+        let Number::Value(number) = text::read_number(text::field(line, 0), false) else {
+            break 'lines Answer::Refused(Refusal::BadNumber(count + 2));
+        };
+        let mut nums = [0i64; 4];
+        let mut k = 0;
+        while k < width {
+            let minus = k == words::constant_place(kind);
+            let Number::Value(x) = text::read_number(text::field(line, k + 2), minus) else {
+                break 'lines Answer::Refused(Refusal::BadNumber(count + 2));
+            };
+            nums[k] = x;
+            k += 1;
+        }
+        if rows::small(number) as usize != count + 1 {
+            break 'lines Answer::Refused(Refusal::OutOfTurn(count + 2));
+        }
+        let row = rows::build(kind, nums);
+        if !rows::in_range(row, head) {
+            break 'lines Answer::Refused(Refusal::OutOfRange(count + 2));
+        }
+        rows[count] = row;
+        count += 1;
+        at = end + 1;
+    };
+    Lines {
+        answer,
+        count,
+        rows,
+    }
+}
+
+// Whether every target names an instruction, or the lowest line with one that does not.
+pub enum Targets {
+    Named,
+    Lost(usize),
+}
+
+pub fn check_targets(rows: [Instruction; Flow::MAX_INSTRUCTIONS], count: usize) -> Targets
+    requires { ⌜ count ≤ 64 ⌝ }
+    ensures { λ r. ⌜ lostIn r ≡ lostTarget count 2 (map instructionOf (take count rows)) ⌝ }
+{
+    let mut i = 0;
+    while i < count {
+        let row = rows[i];
+        if !rows::is_named(row, count as u8) {
+            return Targets::Lost(i + 2);
+        }
+        i += 1;
+    }
+    Targets::Named
+}

@@ -1,0 +1,155 @@
+// Prints what each flow text of data/ is read as, in the order of the names in data/index: the name, and then the refusal, or
+// the flow, written back from its rows. A flow has exactly one text, so the lines written back have to be those of the text.
+// The texts, and the answers in stdout, are made by tests/readings.py.
+use flow::Answer;
+use flow::Flow;
+use flow::Instruction;
+use flow::Kind;
+use flow::Refusal;
+use libc::STDOUT_FILENO;
+
+fn print(bytes: &[u8]) {
+    io::write_all(STDOUT_FILENO, bytes);
+}
+
+// A field: a comma, and a word, a number or a constant.
+fn print_word(word: &[u8]) {
+    print(b",");
+    print(word);
+}
+
+fn print_number(n: u64) {
+    print(b",");
+    io::print_decimal(STDOUT_FILENO, n);
+}
+
+fn print_constant(c: i32) {
+    if c < 0 {
+        print(b",-");
+        io::print_decimal(STDOUT_FILENO, (-1 - c) as u64 + 1);
+        return;
+    }
+    print_number(c as u64);
+}
+
+// Two fields that are numbers.
+fn print_pair(x: u8, y: u8) {
+    print_number(x as u64);
+    print_number(y as u64);
+}
+
+// The fields of an instruction after its number.
+fn print_instruction(x: Instruction) {
+    let kind = x.kind;
+    match kind {
+        Kind::Read => {
+            print_word(b"read");
+            print_pair(x.a, x.v);
+            print_pair(x.p, x.m);
+        }
+        Kind::Put => {
+            print_word(b"put");
+            print_pair(x.v, x.a);
+            print_number(x.p as u64);
+        }
+        Kind::Copy => {
+            print_word(b"copy");
+            print_pair(x.a, x.v);
+            print_number(x.p as u64);
+        }
+        Kind::Set => {
+            print_word(b"set");
+            print_constant(x.c);
+            print_pair(x.v, x.p);
+        }
+        Kind::Less => {
+            print_word(b"less");
+            print_pair(x.a, x.v);
+            print_pair(x.p, x.m);
+        }
+        Kind::Over => {
+            print_word(b"over");
+            print_constant(x.c);
+            print_number(x.v as u64);
+            print_pair(x.p, x.m);
+        }
+        Kind::Under => {
+            print_word(b"under");
+            print_number(x.v as u64);
+            print_constant(x.c);
+            print_pair(x.p, x.m);
+        }
+        Kind::Nop => {
+            print_word(b"nop");
+            print_number(x.p as u64);
+        }
+        Kind::Stop => print_word(b"stop"),
+    }
+}
+
+fn print_refusal(r: Refusal) {
+    print(b" refused");
+    print_number(r.number() as u64);
+    print_number(r.place() as u64);
+    print(b"\n");
+}
+
+fn print_head(tapes: u8, outputs: u8, variables: u8) {
+    print(b" flow");
+    print_number(tapes as u64);
+    print_pair(outputs, variables);
+    print(b"\n");
+}
+
+fn print_line(i: usize, x: Instruction) {
+    io::print_decimal(STDOUT_FILENO, i as u64);
+    print_instruction(x);
+    print(b"\n");
+}
+
+fn print_flow(f: Flow) {
+    print_head(f.tapes, f.outputs, f.variables);
+    for i in 0..Flow::MAX_INSTRUCTIONS {
+        if i < f.count {
+            let x = f.instructions[i];
+            print_line(i + 1, x);
+        }
+    }
+}
+
+// What the text of a file is read as; a byte past the limit is enough to see that there are too many.
+fn print_reading(name: &[u8]) {
+    let mut text = [0u8; Flow::MAX_BYTES + 1];
+    print(name);
+    let fd = os::open_read(name);
+    if fd < 0 {
+        print(b" is missing\n");
+        return;
+    }
+    let n = io::read_full(fd, &mut text);
+    libc::close(fd);
+    let reading = flow::read(&text[..n]);
+    let answer = reading.answer;
+    match answer {
+        Answer::Legal => print_flow(reading.flow),
+        Answer::Refused(r) => print_refusal(r),
+    }
+}
+
+// The readings of the files that a list names, a name to a line.
+fn print_readings(list: &[u8]) {
+    let mut at = 0;
+    while at < list.len() {
+        let end = text::end_of(list, at, b'\n');
+        print_reading(&list[at..end]);
+        at = end + 1;
+    }
+}
+
+fn main() {
+    let mut list = io::large_buffer();
+    let fd = os::open_read(b"index");
+    let n = io::read_full(fd, &mut list);
+    libc::close(fd);
+    print_readings(&list[..n]);
+}

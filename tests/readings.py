@@ -1,0 +1,277 @@
+#!/usr/bin/env python3
+"""Flow texts, and what each is read as, for the program `readings`.
+
+The reader here is written from document 01 alone ("The flow text", "Where a request is turned back") and shares nothing with
+the crates. Without an argument the files of crates/readings are compared with what this script makes; with --write they are
+written.
+"""
+import pathlib
+import sys
+
+# ---- an independent reader: the answer is the flow's own text, or the refusal
+
+WORDS = {
+    b"read": "AvPM", b"put": "vYN", b"copy": "uvN", b"set": "cvN", b"less": "uvPM",
+    b"over": "cvPM", b"under": "vcPM", b"nop": "N", b"stop": "",
+}
+
+
+def number(field, minus=False):
+    """The whole number that a field writes, or None if it is badly written."""
+    if minus and field.startswith(b"-"):
+        size = number(field[1:])
+        return -size if size else None
+    if not field or field.strip(b"0123456789") or field[0] == 48 and len(field) > 1:
+        return None
+    return int(field)
+
+
+def read(text):
+    def refused(number, place):
+        return b"refused,%d,%d\n" % (number, place)
+
+    if len(text) > 4096:
+        return refused(1, 0)
+    if not text:
+        return refused(2, 0)
+    if text[-1] != 10:
+        return refused(3, 0)
+    first, *rest = text[:-1].split(b"\n")
+    word, *counts = first.split(b",")
+    counts = [number(f) for f in counts]
+    if word != b"flow" or len(counts) != 3 or None in counts:
+        return refused(4, 1)
+    if not (1 <= counts[0] <= 3 and counts[1] <= 3 and 1 <= counts[2] <= 4):
+        return refused(5, 1)
+    ranges = {"A": (1, counts[0]), "Y": (1, counts[1]), "u": (1, counts[2]), "v": (1, counts[2]), "c": (-1000, 1000)}
+    lost = []
+    for i, line in enumerate(rest, 1):
+        if i == 65:
+            return refused(8, 66)
+        own, *fields = line.split(b",")
+        names = WORDS.get(fields[0]) if fields else None
+        if names is None or len(fields) != 1 + len(names):
+            return refused(4, i + 1)
+        values = [(f, number(field, f == "c")) for f, field in zip(names, fields[1:])]
+        if None in [number(own)] + [n for _, n in values]:
+            return refused(4, i + 1)
+        if number(own) != i:
+            return refused(6, i + 1)
+        if any(not ranges[f][0] <= n <= ranges[f][1] for f, n in values if f in ranges):
+            return refused(5, i + 1)
+        lost += [i + 1 for f, n in values if f not in ranges and not 1 <= n <= len(rest)]
+    if not rest:
+        return refused(8, 2)
+    return refused(7, lost[0]) if lost else text
+
+
+# ---- the texts, by topic and name
+
+CASES = {}
+
+
+def case(name, text):
+    assert name not in CASES, name
+    CASES[name] = text if isinstance(text, bytes) else text.encode()
+
+
+def flow(*lines, head="flow,2,1,2"):
+    """A text of line 1 and instruction lines."""
+    return "".join(line + "\n" for line in (head,) + lines)
+
+
+def fields(T=2, O=1, V=2, I=1, A=1, v=1, P=1, M=1, Y=1, N=1, c=1):
+    """A legal text of four instructions in which every kind of field can be set."""
+    return flow(f"{I},read,{A},{v},{P},{M}", f"2,put,1,{Y},{N}", f"3,set,{c},1,4", "4,stop", head=f"flow,{T},{O},{V}")
+
+
+def nops(count, last="{},nop,1"):
+    """So many instructions, the last of which may be given."""
+    return flow(*(f"{i},nop,1" for i in range(1, count)), last.format(count))
+
+
+def long(size):
+    """A text of so many bytes, whose only fault, but for its size, is a target of very many digits."""
+    return flow("1,nop," + "9" * (size - len(flow("1,nop,"))))
+
+
+KINDS = "TOVIAvYcNPM"
+FLOW_A = flow("1,read,1,1,2,3", "2,over,5,1,1,3", "3,stop", head="flow,1,0,1")
+
+# legal texts
+case("legal/flow-a", FLOW_A)
+case("legal/flow-b", flow("1,read,1,1,2,3", "2,put,1,1,1", "3,stop", head="flow,1,1,1"))
+case("legal/chain", flow("1,read,1,1,2,6", "2,read,1,2,3,6", "3,over,3,1,4,6", "4,less,1,2,5,6", "5,under,2,5,6,6", "6,stop"))
+case("legal/stop-alone", flow("1,stop"))
+case("legal/no-outputs", flow("1,nop,2", "2,stop", head="flow,1,0,1"))
+case("legal/every-field", fields())
+MOST = ["read,3,4,64,64", "put,4,3,64", "copy,4,4,64", "set,1000,4,64", "less,4,4,64,64", "over,1000,4,64,64",
+        "under,4,1000,64,64", "nop,64", "stop"]
+LEAST = ["read,1,1,1,1", "put,1,1,1", "copy,1,1,1", "set,-1000,1,1", "less,1,1,1,1", "over,-1000,1,1,1", "under,1,-1000,1,1",
+         "nop,1", "stop"]
+UNLIKE = ["read,2,3,4,5", "put,3,2,4", "copy,2,3,4", "set,-5,3,6", "less,2,3,4,6", "over,-5,3,7,8", "under,3,-5,8,9", "nop,9", "stop"]
+case("legal/nine-kinds-greatest", flow(*(f"{i},{MOST[i % 9]}" for i in range(1, 65)), head="flow,3,3,4"))
+case("legal/nine-kinds-least", flow(*(f"{i},{x}" for i, x in enumerate(LEAST, 1)), head="flow,1,1,1"))
+case("legal/nine-kinds-unlike", flow(*(f"{i},{x}" for i, x in enumerate(UNLIKE, 1)), head="flow,3,2,4"))
+
+# the whole text: refusals 1, 2, 3
+case("whole/4096-bytes", long(4096))
+case("whole/4097-bytes", long(4097))
+case("whole/4096-bytes-no-end", long(4097)[:-1])
+case("whole/4097-bytes-no-end", long(4098)[:-1])
+case("whole/4096-ends", "\n" * 4096)
+case("whole/no-bytes", "")
+case("whole/no-end", FLOW_A[:-1])
+case("whole/no-end-faulty", FLOW_A[:-1] + ",,")
+case("whole/end-alone", "\n")
+case("whole/byte-alone", "f")
+
+# the lines and their count: refusal 8, and 4 for an empty line
+case("lines/only-line-1", flow())
+case("lines/only-line-1-faulty", flow(head="flow,4,1,2"))
+case("lines/64-instructions", nops(64))
+case("lines/65-instructions", nops(65))
+case("lines/65-word", nops(64, "{},no,1"))
+case("lines/65-turn", nops(64, "65,nop,1"))
+case("lines/65-range", nops(64, "{},set,1001,1,1"))
+case("lines/65-target", nops(64, "{},nop,65"))
+case("lines/66-faulty", nops(65, "x"))
+case("lines/66-empty", nops(65, ""))
+case("lines/65-and-66-faulty", nops(64, "x") + "x\n")
+case("lines/66-and-target", nops(65).replace("1,nop,1", "1,nop,0", 1))
+case("lines/empty-1", "\n" + FLOW_A)
+case("lines/empty-2", FLOW_A.replace("\n", "\n\n", 1))
+case("lines/empty-middle", FLOW_A.replace("\n2", "\n\n2"))
+case("lines/empty-last", FLOW_A + "\n")
+
+# bytes that have no meaning of their own: refusal 4
+case("bytes/cr-before-ends", FLOW_A.replace("\n", "\r\n"))
+case("bytes/cr-before-last-end", FLOW_A.replace("stop\n", "stop\r\n"))
+case("bytes/cr-for-end", FLOW_A.replace("\n2", "\r2"))
+case("bytes/nul-after-flow", FLOW_A.replace("flow", "flow\0"))
+case("bytes/nul-after-word", FLOW_A.replace("stop", "stop\0"))
+case("bytes/nul-after-number", FLOW_A.replace("over,5", "over,5\0"))
+case("bytes/nul-after-last-end", FLOW_A + "\0\n")
+case("bytes/blank-before-number", FLOW_A.replace("over,5", "over, 5"))
+case("bytes/blank-after-word", FLOW_A.replace("stop", "stop "))
+case("bytes/tab-before-number", FLOW_A.replace("read,1", "read,\t1"))
+case("bytes/byte-order-mark", b"\xef\xbb\xbf" + FLOW_A.encode())
+case("bytes/above-127-in-word", FLOW_A.encode().replace(b"stop", b"st\xf6p"))
+case("bytes/above-127-for-digit", FLOW_A.encode().replace(b"over,5", b"over,\xb5"))
+case("bytes/47-for-digit", FLOW_A.replace("over,5", "over,/"))
+case("bytes/58-for-digit", FLOW_A.replace("over,5", "over,:"))
+case("bytes/quotes", FLOW_A.replace("stop", '"stop"'))
+
+# words: refusal 4
+for word in ["stops", "sto", "STOP", "halt", "flow", ""]:
+    case(f"words/{word or 'empty'}", flow("1," + word))
+for word in ["rea", "reads", "READ", "flow"]:
+    case(f"words/{word}-with-fields", flow(f"1,{word},1,1,2,2", "2,stop"))
+for word in ["read", "FLOW", "flows", "1,flow"]:
+    case(f"words/line-1-{word.replace(',', '-')}", flow("1,stop", head=word + ",1,0,1"))
+case("words/stop-for-number", flow("stop,1"))
+case("words/stop-without-number", flow("stop"))
+case("words/number-alone", flow("1"))
+
+# the count of fields: refusal 4
+for word, line in [("flow", ""), ("read", "1,read,1,1,2,2"), ("set", "1,set,1,1,2"), ("nop", "1,nop,2"), ("stop", "1,stop")]:
+    def counted(change):
+        return flow(change(line), "2,stop") if line else flow("1,stop", head=change("flow,1,0,1"))
+    case(f"count/{word}-comma-after", counted(lambda x: x + ","))
+    case(f"count/{word}-field-more", counted(lambda x: x + ",1"))
+    case(f"count/{word}-field-less", counted(lambda x: x.rpartition(",")[0]))
+case("count/comma-before", flow(",1,stop"))
+
+# badly written numbers: refusal 4
+for name, digits in [("minus-0", "-0"), ("00", "00"), ("01", "01"), ("minus-01", "-01"), ("minus-00", "-00"), ("plus-1", "+1"),
+                     ("minus-alone", "-"), ("minus-twice", "--1"), ("minus-after", "1-"), ("letter", "1a"), ("empty", "")]:
+    case(f"badly/c-{name}", fields(c=digits))
+for kind in KINDS:
+    case(f"badly/{kind}-minus-1{'-is-legal' if kind == 'c' else ''}", fields(**{kind: -1}))
+for kind, name, digits in [("T", "01", "01"), ("O", "00", "00"), ("V", "empty", ""), ("I", "01", "01"), ("I", "empty", ""), ("A", "plus-1", "+1"),
+                           ("v", "minus-0", "-0"), ("Y", "minus-alone", "-"), ("N", "01", "01"), ("P", "empty", ""), ("M", "00", "00")]:
+    case(f"badly/{kind}-{name}", fields(**{kind: digits}))
+case("badly/c-0-500-digits", fields(c="0" * 499 + "1"))
+
+# well written numbers which a reader that wraps takes for 1
+for kind in KINDS:
+    case(f"digits/{kind}-20", fields(**{kind: 2 ** 64 + 1}))
+    case(f"digits/{kind}-40", fields(**{kind: 2 ** 64 * 10 ** 20 + 1}))
+    case(f"digits/{kind}-500", fields(**{kind: 2 ** 64 * 10 ** 480 + 1}))
+for kind in "TIvcN":
+    case(f"digits/{kind}-10", fields(**{kind: 2 ** 32 + 1}))
+for kind in "OIYM":
+    case(f"digits/{kind}-3", fields(**{kind: 2 ** 8 + 1}))
+case("digits/c-500-minus", fields(c=-(2 ** 64) * 10 ** 480 - 1))
+
+# ranges: refusal 5
+for kind, values in [("T", (0, 1, 3, 4)), ("O", (0, 3, 4)), ("V", (0, 1, 4, 5)), ("A", (0, 2, 3)), ("v", (0, 2, 3)), ("Y", (0, 2)),
+                     ("c", (-1001, -1000, 0, 1000, 1001))]:
+    for value in values:
+        case(f"range/{kind}-{value}".replace("--", "-minus-"), fields(**{kind: value}))
+for name, line in [("put-variable", "put,3,1,1"), ("put-no-outputs", "put,1,1,1"), ("copy-first", "copy,3,1,1"), ("copy-second", "copy,1,3,1"),
+                   ("less-first", "less,3,1,1,1"), ("less-second", "less,1,3,1,1"), ("over-1001", "over,1001,1,1,1"),
+                   ("over-minus-1001", "over,-1001,1,1,1"), ("over-variable", "over,1,3,1,1"), ("under-1001", "under,1,1001,1,1"),
+                   ("under-minus-1001", "under,1,-1001,1,1"), ("under-variable", "under,3,1,1,1"), ("set-variable", "set,1,3,1")]:
+    case(f"range/{name}", flow("1," + line, head="flow,1,0,2" if name == "put-no-outputs" else "flow,1,1,2"))
+
+# turns: refusal 6
+case("turn/0", flow("0,stop"))
+case("turn/2-first", flow("2,stop"))
+case("turn/again", flow("1,nop,1", "1,stop"))
+case("turn/left-out", flow("1,nop,1", "3,stop"))
+
+# targets: refusal 7
+for kind in "NPM":
+    for value in (0, 4, 5):
+        case(f"target/{kind}-{value}-of-4", fields(**{kind: value}))
+case("target/never-reached", flow("1,stop", "2,nop,3"))
+case("target/lowest-line", flow("1,nop,1", "2,less,1,1,1,4", "3,nop,0"))
+
+# the order of refusals
+case("order/4-before-6-before-5", flow("7,set,1001,1,01"))
+case("order/6-before-5", flow("7,set,1001,1,1"))
+case("order/5-before-7", flow("1,set,1001,1,9"))
+case("order/4-before-5-line-1", flow("1,stop", head="flow,9,9,01"))
+case("order/line-1-with-5-line-2-with-4", flow("x", head="flow,9,1,1"))
+case("order/line-2-with-5-line-3-with-4", flow("1,set,1001,1,1", "x"))
+case("order/line-2-with-6-line-3-with-4", flow("2,stop", "x"))
+case("order/line-2-with-7-line-3-with-4", flow("1,nop,0", "2,stops"))
+case("order/line-2-with-7-line-3-with-6", flow("1,nop,0", "3,stop"))
+case("order/line-2-with-7-line-3-with-5", flow("1,nop,0", "2,set,1001,1,1"))
+
+
+# ---- the files of crates/readings
+
+def files():
+    made = {f"data/{name}": text for name, text in CASES.items()}
+    made["data/index"] = "".join(name + "\n" for name in CASES).encode()
+    made["stdout"] = b"".join(name.encode() + b" " + read(text) for name, text in CASES.items())
+    return made
+
+
+def there(crate):
+    found = [f for f in crate.glob("data/**/*") if f.is_file()] + [f for f in [crate / "stdout"] if f.exists()]
+    return {f.relative_to(crate).as_posix(): f.read_bytes() for f in found}
+
+
+def main():
+    crate = pathlib.Path(__file__).resolve().parent.parent / "crates" / "readings"
+    made = files()
+    if "--write" in sys.argv[1:]:
+        for name in set(there(crate)) - set(made):
+            (crate / name).unlink()
+        for name, content in made.items():
+            (crate / name).parent.mkdir(parents=True, exist_ok=True)
+            (crate / name).write_bytes(content)
+    found = there(crate)
+    wrong = sorted(name for name in set(found) | set(made) if found.get(name) != made.get(name))
+    for name in wrong:
+        print("differs:", name)
+    if not wrong:
+        print(len(CASES), "texts agree")
+    return 1 if wrong else 0
+
+
+if __name__ == "__main__":
+    sys.exit(main())
