@@ -1,27 +1,90 @@
 -- A text that is read gives a legal flow, and the rows that hold a flow give it back.
 use mathlib.Core.Path.{_≡_, refl, sym, ap, ap₂, _∙_, subst}
-use mathlib.Core.Bool.{Bool, true, false}
+use mathlib.Core.Bool.{Bool, true, false, _&&_}
 use mathlib.Core.List.{List, [], _∷_, _++_, map, map-map}
+use mathlib.Core.Logic.{inl, inr}
 use mathlib.Core.Option.{Option, none, some}
-use Prim.Native.Nat.{ℕ, zero, suc, _-_, _≤_}
+use Prim.Native.Nat.{ℕ, zero, suc, _-_, _≤_, _<_}
 use native.Mathlib.Omega.{arith}
 use borrow.Author.Tests.{leb-true}
-use lib.Dec.{leb, eqb}
+use lib.Dec.{T, leb, eqb}
+use lib.IntN.{ℤ}
+use lib.Signed.{leZ}
 use lib.ListN.{length, getD, take, drop, replicate, length-map}
 use lib.Seq.{take-at}
-use Rattle.model.specs.Language.{Instruction, stop, Flow, fields, instruction}
+use Rattle.graph.specs.Lists.{In}
+use Rattle.model.specs.Language.{
+  Instruction,
+  stop,
+  Flow,
+  Field,
+  tape,
+  output,
+  variable,
+  target,
+  constant,
+  fields,
+  instruction,
+  constants,
+  C1,
+  C2,
+}
+use Rattle.model.proofs.Integers.{Inside}
+use Rattle.model.proofs.Lists.{All}
+use Rattle.model.proofs.View.{Numbered, Legal as Sound}
+use Rattle.model.proofs.Constants.{legal-basic}
 use Rattle.text.specs.Split.{lines, fields as split}
 use Rattle.flow.specs.Limits.{maxBytes, maxInstructions}
 use Rattle.flow.specs.Read.{Checked, ok, fault, check, after, unless, inRange, isNamed, all, readHead, readLines, lostTarget, readRest, readFlow}
 use Rattle.flow.specs.Code.{rowOf, instructionOf, rowsOf, flowOf}
-use Rattle.flow.specs.Legal.{Legal, head}
+use Rattle.flow.specs.Legal.{Legal, head, isWithin}
 use Rattle.flow.specs.Inner.{HeadFits}
 use Rattle.flow.specs.declared.Head.{Head}
 use Rattle.flow.specs.declared.Refusal.{Refusal}
 use Rattle.flow.specs.declared.Refusal.the-variants.{TooLong, NoBytes, NoLastEnd, NoInstruction, NoSuchTarget}
 use Rattle.flow.proofs.RowLaws.{row-back}
+use Rattle.flow.proofs.ClampLaws.{and-split}
 use Rattle.flow.proofs.HeadLaws.{head-read-fits}
 use Rattle.flow.proofs.ReadLaws.{check-ok, after-ok, fault-not-ok, AllFit, lines-fit, at-most-64, none-lost}
+
+-- ---- what the theory of the model asks of a flow, with its own C1 and C2
+numbered : (flow : Flow) (fs : List Field) → all (inRange (head flow)) fs ≡ true → All (Numbered flow) fs
+unfolding all
+numbered flow [] e = tt
+numbered flow (f ∷ fs) e =
+    let (one, rest) = and-split (inRange (head flow) f) (all (inRange (head flow)) fs) e in
+    (by f one, numbered flow fs rest)
+  where
+    counted : (n hi : ℕ) → (leb 1 n && leb n hi) ≡ true → (0 < n) × (n ≤ hi)
+    counted n hi e = let (l, h) = and-split (leb 1 n) (leb n hi) e in (omega (arith, leb-true 1 n l), leb-true n hi h)
+
+    by : (f : Field) → inRange (head flow) f ≡ true → Numbered flow f
+    by (tape n) e = counted n (flow .tapes) e
+    by (output n) e = tt
+    by (variable n) e = counted n (flow .variables) e
+    by (target n) e = tt
+    by (constant c) e = tt
+
+pub ranges-sound : (flow : Flow) → ((i : ℕ) → all (inRange (head flow)) (fields (instruction flow i)) ≡ true) → Sound (C1 flow) (C2 flow) flow
+ranges-sound flow h = legal-basic flow (λ i. numbered flow (fields (instruction flow i)) (h i))
+
+pub legal-sound : (flow : Flow) → Legal flow → Sound (C1 flow) (C2 flow) flow
+legal-sound flow l = ranges-sound flow (l .ranges)
+
+within : (lo hi : ℤ) (fs : List Field) → ((c : ℤ) → In c (constants fs) → Inside lo hi c) → all (isWithin lo hi) fs ≡ true
+unfolding all constants
+within lo hi [] h = refl
+within lo hi (tape n ∷ fs) h = within lo hi fs h
+within lo hi (output n ∷ fs) h = within lo hi fs h
+within lo hi (variable n ∷ fs) h = within lo hi fs h
+within lo hi (target n ∷ fs) h = within lo hi fs h
+within lo hi (constant c ∷ fs) h =
+    let i = h c (inl refl) in
+    rw (true-of (leZ lo c) (i .low), true-of (leZ c hi) (i .high)) (within lo hi fs (λ d k. h d (inr k)))
+  where
+    true-of : (b : Bool) → T b → b ≡ true
+    true-of true t = refl
+    true-of false t = absurd t
 
 -- what stands at every instruction of the list stands at every number
 at-number : (P : Instruction → Type 0) → P stop → (xs : List Instruction) → ((j : ℕ) → P (getD xs j stop)) → (i : ℕ) → P (getD (stop ∷ xs) i stop)
@@ -50,6 +113,9 @@ rest-legal h f ls flow e =
       size = (leb-true 1 (length xs) any, at-most-64 h ls xs read);
       ranges = at-number (λ x. all (inRange h) (fields x) ≡ true) refl xs (lines-fit h 1 ls xs read);
       targets = at-number (λ x. all (isNamed (length xs)) (fields x) ≡ true) refl xs (none-lost (length xs) 2 xs named);
+      constants =
+          let sound = ranges-sound (made h xs) (at-number (λ x. all (inRange h) (fields x) ≡ true) refl xs (lines-fit h 1 ls xs read)) in
+          λ i. within (C1 (made h xs)) (C2 (made h xs)) (fields (instruction (made h xs) i)) (sound .constants-inside i);
     })
   where
     judge : List Instruction → Checked Flow

@@ -29,3 +29,4 @@ pub record Legal (flow : Flow) : Type 0 where
   pub size : (1 ≤ length (flow .instructions)) × (length (flow .instructions) ≤ maxInstructions)
   pub ranges : (i : ℕ) → all (inRange (head flow)) (fields (instruction flow i)) ≡ true
   pub targets : (i : ℕ) → all (isNamed (length (flow .instructions))) (fields (instruction flow i)) ≡ true
+  pub constants : (i : ℕ) → all (isWithin (C1 flow) (C2 flow)) (fields (instruction flow i)) ≡ true

@@ -1,11 +1,11 @@
 -- Configurations, those that are reachable, and how many there are (document 01, "Distances and configurations").
 use mathlib.Core.Path.{_≡_}
 use mathlib.Core.Bool.{Bool}
-use mathlib.Core.List.{List, [], _∷_}
-use mathlib.Core.Logic.{_⊎_}
+use mathlib.Core.List.{List}
 use Prim.Native.Nat.{ℕ}
 use lib.IntN.{ℤ}
 use lib.ListN.{length}
+use Rattle.graph.specs.Lists.{Census as CensusOf}
 use Rattle.model.specs.Language.{Flow}
 use Rattle.model.specs.Machine.{State, run}
 use Rattle.model.specs.Pattern.{Mark, pattern}
@@ -26,17 +26,6 @@ pub record Reachable (lo hi : ℤ) (flow : Flow) (c : Configuration) : Type 0 wh
   pub n : ℕ
   pub arrives : configuration lo hi (run flow tapes n) ≡ c
 
--- membership in a list, and a list that holds nothing twice
-abbrev pub In : {A : Type 0} → A → List A → Type 0
-In x [] = ⊥
-In x (y ∷ ys) = (x ≡ y) ⊎ In x ys
-
-abbrev pub Once : {A : Type 0} → List A → Type 0
-Once [] = Unit {0}
-Once (x ∷ xs) = (In x xs → ⊥) × Once xs
-
 -- a census holds each reachable configuration once and nothing else; its length is their number
-pub record Census (lo hi : ℤ) (flow : Flow) (list : List Configuration) : Type 0 where
-  pub once : Once list
-  pub all : (c : Configuration) → Reachable lo hi flow c → In c list
-  pub only : (c : Configuration) → In c list → Reachable lo hi flow c
+abbrev pub Census : (lo hi : ℤ) → Flow → List Configuration → Type 0
+Census lo hi flow list = CensusOf (Reachable lo hi flow) list

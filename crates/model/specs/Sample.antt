@@ -6,10 +6,10 @@ use lib.IntN.{ℤ, pos, _+ℤ_, negℤ}
 use lib.Signed.{leZ}
 use lib.ListN.{length, replicate}
 use lib.Dec.{T}
+use Rattle.graph.specs.Lists.{In}
 use Rattle.model.specs.Language.{Flow}
 use Rattle.model.specs.Machine.{Exit, run}
 use Rattle.model.specs.Distance.{Takes, Distance}
-use Rattle.model.specs.Configuration.{In}
 
 -- a record between lo less d and hi plus d
 pub record Near (lo hi : ℤ) (d : ℕ) (x : ℤ) : Type 0 where
