@@ -65,7 +65,7 @@ pub struct Flow {
     pub instructions: [Instruction; Flow::MAX_INSTRUCTIONS],
 }
 
-// Why a flow text is turned back; a number is the line's.
+// Why a request is turned back; a number is the line's. The first eleven concern the text of a flow.
 pub enum Refusal {
     TooLong,
     NoBytes,
@@ -78,6 +78,10 @@ pub enum Refusal {
     NoSuchTarget(usize),
     TooManyLines,
     NoInstruction,
+    TooFewCells,
+    ShortRow,
+    NoSuchExit,
+    WrongTapes,
 }
 
 // Whether a text was read.
@@ -109,6 +113,10 @@ impl Refusal {
             Refusal::NoSuchTarget(_) => 7,
             Refusal::TooManyLines => 8,
             Refusal::NoInstruction => 8,
+            Refusal::TooFewCells => 9,
+            Refusal::ShortRow => 10,
+            Refusal::NoSuchExit => 11,
+            Refusal::WrongTapes => 12,
         }
     }
 
@@ -128,6 +136,10 @@ impl Refusal {
             Refusal::NoSuchTarget(line) => line,
             Refusal::TooManyLines => Flow::MAX_INSTRUCTIONS + 2,
             Refusal::NoInstruction => 2,
+            Refusal::TooFewCells => 0,
+            Refusal::ShortRow => 0,
+            Refusal::NoSuchExit => 0,
+            Refusal::WrongTapes => 0,
         }
     }
 }
