@@ -4,3 +4,4 @@ pub mod Distance
 pub mod Pattern
 pub mod Configuration
 pub mod Sample
+pub mod Tapes
