@@ -1,0 +1,9 @@
+pub mod HeldLaws
+pub mod Narrow
+pub mod LimitedLaws
+pub mod Counts
+pub mod RowLaws
+pub mod Shown
+pub mod RunLaws
+pub mod TapeLaws
+pub mod RunExamples

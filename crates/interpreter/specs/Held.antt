@@ -1,0 +1,98 @@
+-- What the code holds of a run. Machinery that only inner contracts cite.
+use mathlib.Core.Path.{_≡_}
+use mathlib.Core.Bool.{Bool, true, false, cond}
+use mathlib.Core.List.{List, [], _∷_}
+use mathlib.Core.Option.{Option, none, some}
+use Prim.Native.Nat.{ℕ, _≤_}
+use lib.IntN.{ℤ}
+use lib.ListN.{length, getD, take}
+use lib.Seq.{slice}
+use Rattle.model.specs.Language.{Field, tape, output, variable, target, constant, fields}
+use Rattle.model.specs.Machine.{State, stepBy, Exit, exitIf, exitBy}
+use Rattle.flow.specs.Code.{instructionOf, flowOf}
+use Rattle.flow.specs.Limits.{maxTapes, maxVariables}
+use Rattle.flow.specs.declared.Flow.{Flow as Rows}
+use Rattle.flow.specs.declared.Instruction.{Instruction as Row}
+use Rattle.flow.specs.declared.Kind.{Kind}
+use Rattle.flow.specs.declared.Kind.the-variants.{Read, Put, Copy, Set, Less, Over, Under, Nop, Stop}
+use Rattle.interpreter.specs.Run.{Outcome, begin, limited}
+
+-- what is left of each tape: the records from its place to its end
+unfoldable pub leftIn : List ℤ → (at ends : List ℕ) → List (List ℤ)
+leftIn row [] ends = []
+leftIn row (a ∷ at) [] = []
+leftIn row (a ∷ at) (e ∷ ends) = slice a e row ∷ leftIn row at ends
+
+-- the state that the code holds: always four variables and three tapes, and no set of ended tapes
+abbrev pub held : ℕ → List ℤ → List ℤ → (at ends : List ℕ) → State
+held next row variables at ends = record { next = next; variables = variables; left = leftIn row at ends; ended = [] }
+
+-- the places and ends of three tapes, which end in the row
+pub record Placed (row : List ℤ) (at ends : List ℕ) : Type 0 where
+  pub places : length at ≡ maxTapes
+  pub three : length ends ≡ maxTapes
+  pub within : (i : ℕ) → getD ends i 0 ≤ length row
+
+-- fields that name tapes 1 to t and variables 1 to v; a row names three tapes and four variables at most
+abbrev pub Fits : (t v : ℕ) → Field → Type 0
+Fits t v (tape n) = (1 ≤ n) × (n ≤ t)
+Fits t v (output n) = Unit {0}
+Fits t v (variable n) = (1 ≤ n) × (n ≤ v)
+Fits t v (target n) = Unit {0}
+Fits t v (constant c) = Unit {0}
+
+abbrev pub AllFit : (t v : ℕ) → List Field → Type 0
+AllFit t v [] = Unit {0}
+AllFit t v (f ∷ fs) = Fits t v f × AllFit t v fs
+
+unfoldable pub RowFits : Row → Type 0
+RowFits x = AllFit maxTapes maxVariables (fields (instructionOf x))
+
+-- the kinds that end a run, put, and have two exits
+abbrev pub stops : Kind → Bool
+stops Read = false
+stops Put = false
+stops Copy = false
+stops Set = false
+stops Less = false
+stops Over = false
+stops Under = false
+stops Nop = false
+stops Stop = true
+
+abbrev pub outputs : Kind → Bool
+outputs Read = false
+outputs Put = true
+outputs Copy = false
+outputs Set = false
+outputs Less = false
+outputs Over = false
+outputs Under = false
+outputs Nop = false
+outputs Stop = false
+
+abbrev pub branches : Kind → Bool
+branches Read = true
+branches Put = false
+branches Copy = false
+branches Set = false
+branches Less = true
+branches Over = true
+branches Under = true
+branches Nop = false
+branches Stop = false
+
+-- the exit taken, by whether there are two and whether the step goes on by the first target
+abbrev pub exitWhen : (two first : Bool) → Option Exit
+exitWhen true first = some (exitIf first)
+exitWhen false first = none
+
+-- one step of the machine on what the code holds, which goes on by the row's first target or by its second
+pub record Stepped (x : Row) (row : List ℤ) (ends : List ℕ) (vs : List ℤ) (at : List ℕ) (vs′ : List ℤ) (at′ : List ℕ) (first : Bool) : Type 0 where
+  pub state : (n : ℕ) → stepBy (instructionOf x) (held n row vs at ends) ≡ held (cond first (x .p) (x .m)) row vs′ at′ ends
+  pub exit : (n : ℕ) → exitBy (instructionOf x) (held n row vs at ends) ≡ exitWhen (branches (x .kind)) first
+  pub kept : length at′ ≡ length at
+
+-- the run on the tapes that stand at these places
+unfoldable pub heldRun : Rows → (cells limit : ℕ) → List ℤ → (at ends : List ℕ) → Outcome
+heldRun flow cells limit row at ends = limited (flowOf flow) (some cells) limit (begin (flowOf flow) (take (flow .tapes) (leftIn row at ends)))
