@@ -6,4 +6,3 @@ pub mod HeadLaws
 pub mod ReadLaws
 pub mod FlowLaws
 pub mod LegalLaws
-pub mod Examples
