@@ -1,5 +1,5 @@
 -- The request for a run by the code's steps: the text, the count of lengths, their sum, and the run on three cells of lengths.
-use mathlib.Core.Path.{_≡_, refl, sym, ap, _∙_, subst⁻¹}
+use mathlib.Core.Path.{_≡_, refl, sym, ap, _∙_, subst, subst⁻¹}
 use mathlib.Core.Bool.{true, false}
 use mathlib.Core.List.{List}
 use Prim.Native.Nat.{ℕ, _≤_}
@@ -21,7 +21,8 @@ use Rattle.flow.specs.declared.Answer as Answers
 use Rattle.flow.specs.declared.Reading.{Reading}
 use Rattle.flow.proofs.LegalLaws.{read-legal, flow-back}
 use Rattle.interpreter.specs.Run.{Outcome, rowRun, ranOf, written, tapesPut, valuesPut}
-use Rattle.tape_maker.specs.Run.{requestedOf, requested, ranAnswer, answerOf, numbersAfter, valuesAfter}
+use Rattle.tape_maker.specs.Run.{requestedOf, requested, ranAnswer, answerOf, numbersAfter, valuesAfter, RunIs}
+use Rattle.tape_maker.specs.declared.RunAnswer.{RunAnswer}
 use Rattle.tape_maker.proofs.Lengths.{threeOf, three-hold}
 
 module _ (flow : Flow) (limit : ℕ) (row : List ℤ) (lengths numbers : List ℕ) (values : List ℤ) where
@@ -52,15 +53,21 @@ module _ (flow : Flow) (limit : ℕ) (row : List ℤ) (lengths numbers : List �
     right-tapes few sum = rw (eq-eqb (length lengths) (flow .tapes) count, sum) (ap ok (sym (same-run few)))
 
 -- a refusal leaves the output rows as they are
-pub fault-rows : (o : Checked Outcome) (r : Refusal) (numbers : List ℕ) (values : List ℤ) → o ≡ fault r → (numbers ≡ numbersAfter o numbers) × (values ≡ valuesAfter o values)
+pub refused-is : (o : Checked Outcome) (q : Refusal) (numbers : List ℕ) (values : List ℤ) (r : RunAnswer) → o ≡ fault q → r ≡ answerOf (fault q)
+    → RunIs o numbers numbers values values r
 unfolding numbersAfter valuesAfter
-fault-rows o r numbers values e = (rw e, rw e)
+refused-is o q numbers values r e a = record { answer = rw e a; numbers-after = rw e; values-after = rw e }
 
 -- a run gives its answer and what it has put
-pub ran-rows : (o : Checked Outcome) (x : Outcome) (numbers : List ℕ) (values : List ℤ) → o ≡ ok x
-    → (ranAnswer (ranOf x) ≡ answerOf o) × (written (tapesPut x) numbers ≡ numbersAfter o numbers) × (written (valuesPut x) values ≡ valuesAfter o values)
+pub ran-is : (o : Checked Outcome) (x : Outcome) (numbers numbers′ : List ℕ) (values values′ : List ℤ) (r : RunAnswer) → o ≡ ok x
+    → r ≡ ranAnswer (ranOf x) → numbers′ ≡ written (tapesPut x) numbers → values′ ≡ written (valuesPut x) values
+    → RunIs o numbers numbers′ values values′ r
 unfolding answerOf numbersAfter valuesAfter
-ran-rows o x numbers values e = (rw e, rw e, rw e)
+ran-is o x numbers numbers′ values values′ r e a n v = record { answer = rw e a; numbers-after = rw e n; values-after = rw e v }
+
+pub run-carried : {o o′ : Checked Outcome} {numbers numbers′ : List ℕ} {values values′ : List ℤ} {r : RunAnswer} → o ≡ o′
+    → RunIs o numbers numbers′ values values′ r → RunIs o′ numbers numbers′ values values′ r
+run-carried {numbers = n} {numbers′ = n′} {values = v} {values′ = v′} {r = r} e h = subst (λ (x : Checked Outcome). RunIs x n n′ v v′ r) e h
 
 -- ---- the text: what the reading's answer says of the request
 pub read-fault : (text : List ℕ) (r : Refusal) (reading : Reading) → reading ≡ readingOf (readFlow text) → reading .answer ≡ Answers.the-variants.Refused r

@@ -2,8 +2,7 @@
 // its caller; specs/ has one definition for each.
 mod running; // running.rt: the request for a run
 
-ghost use mathlib.Core.Path.{_≡_};
-ghost use Rattle.tape_maker.specs.Run.{requested, answerOf, numbersAfter, valuesAfter};
+ghost use Rattle.tape_maker.specs.Run.{requested, RunIs};
 use flow::Answer;
 use flow::Flow;
 use flow::Refusal;
@@ -35,9 +34,8 @@ pub fn run(
     numbers: &mut [u8],
     values: &mut [i32],
 ) -> RunAnswer
-    ensures { λ r. ⌜ r ≡ answerOf (requested (now (text .entry)) limit (now (records .entry)) (now (lengths .entry)) (now (numbers .entry)) (now (values .entry))) ⌝ }
-    ensures { λ r. ⌜ now (numbers .exit) ≡ numbersAfter (requested (now (text .entry)) limit (now (records .entry)) (now (lengths .entry)) (now (numbers .entry)) (now (values .entry))) (now (numbers .entry)) ⌝ }
-    ensures { λ r. ⌜ now (values .exit) ≡ valuesAfter (requested (now (text .entry)) limit (now (records .entry)) (now (lengths .entry)) (now (numbers .entry)) (now (values .entry))) (now (values .entry)) ⌝ }
+    ensures { λ r. ⌜ RunIs (requested (now (text .entry)) limit (now (records .entry)) (now (lengths .entry)) (now (numbers .entry)) (now (values .entry)))
+        (now (numbers .entry)) (now (numbers .exit)) (now (values .entry)) (now (values .exit)) r ⌝ }
 {
     let reading = flow::read(text);
     let answer = reading.answer;

@@ -7,13 +7,12 @@ use Prim.Native.Nat.{ℕ, _≤_}
 use lib.ListN.{length}
 use borrow.Author.Tests.{not-true, not-false}
 use denote.Ref.{now}
-use Rattle.tape_maker.proofs.RunLaws.{ran-rows}
 use Rattle.model.specs.Tapes.{total}
 use Rattle.flow.specs.Code.{flowOf}
 use Rattle.interpreter.specs.Run.{Outcome, rowRun, ranOf, written, tapesPut, valuesPut}
-use Rattle.tape_maker.specs.Run.{answerOf, ranAnswer, numbersAfter, valuesAfter}
+use Rattle.tape_maker.specs.Run.{ranAnswer}
 use Rattle.tape_maker.proofs.Lengths.{threeOf}
-use Rattle.tape_maker.proofs.RunLaws.{wrong-count, wrong-sum, three-fit, right-tapes, fault-rows}
+use Rattle.tape_maker.proofs.RunLaws.{wrong-count, wrong-sum, three-fit, right-tapes, refused-is, ran-is}
 use Rattle.tape_maker.proofs.running.run_flow.Statement.{statement}
 use Rattle.tape_maker.proofs.running.run_flow.Tie as tie
 
@@ -21,14 +20,14 @@ returns : tie.Need-returns
 unfolding flowOf
 returns c = let a = c .before .before .before .before .before .args in
     let e = wrong-count (flowOf (a .flow)) (a .limit) (now (a .records)) (now (a .lengths)) (now (a .numbers)) (now (a .values)) (c .before .if1 .taken) in
-    (c .refused .ensures ∙ ap answerOf (sym e), fault-rows _ _ _ _ e)
+    refused-is _ _ _ _ _ e (c .refused .ensures)
 
 returns-2 : tie.Need-returns-2
 unfolding flowOf
 returns-2 c = let a = c .before .before .before .before .before .before .before .args in
     let e = wrong-sum (flowOf (a .flow)) (a .limit) (now (a .records)) (now (a .lengths)) (now (a .numbers)) (now (a .values)) (c .before .before .before .if1 .left)
     (sym (c .before .before .adds-up .ensures) ∙ not-true _ (c .before .if2 .taken)) in
-    (c .refused2 .ensures ∙ ap answerOf (sym e), fault-rows _ _ _ _ e)
+    refused-is _ _ _ _ _ e (c .refused2 .ensures)
 
 run-requires : tie.Need-run-requires
 unfolding flowOf
@@ -49,13 +48,9 @@ returns-3 c = let a = c .before .before .before .before .before .before .before 
     let w : List ℕ → Outcome = λ t. rowRun (flowOf (a .flow)) (a .limit) (now (a .records)) t (now (a .numbers)) (now (a .values)) in
     let t = c .before .before .before .before .before .before .before .three .ensures in
     let r = c .before .before .before .before .run .ensures in
-    let s = ran-rows _ _ (now (a .numbers)) (now (a .values)) e in (
-      c .ran .ensures ∙ ap ranAnswer (r .0 ∙ ap (λ (u : List ℕ). ranOf (w u)) t) ∙ s .0,
-      (
-        r .1 .0 ∙ ap (λ (u : List ℕ). written (tapesPut (w u)) (now (a .numbers))) t ∙ s .1,
-        r .1 .1 ∙ ap (λ (u : List ℕ). written (valuesPut (w u)) (now (a .values))) t ∙ s .2,
-      ),
-    )
+    ran-is _ _ _ _ _ _ _ e (c .ran .ensures ∙ ap ranAnswer (r .0 ∙ ap (λ (u : List ℕ). ranOf (w u)) t))
+    (r .1 .0 ∙ ap (λ (u : List ℕ). written (tapesPut (w u)) (now (a .numbers))) t)
+    (r .1 .1 ∙ ap (λ (u : List ℕ). written (valuesPut (w u)) (now (a .values))) t)
 
 pub run-flow-spec : {M : Type 1} → statement M
 run-flow-spec =
