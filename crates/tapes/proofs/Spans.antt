@@ -1,0 +1,96 @@
+-- The lengths of tapes added up, no sum passing the row; and the part of one tape among all of them.
+use mathlib.Core.Path.{_≡_, refl, sym, ap, _∙_, subst}
+use mathlib.Core.List.{List, [], _∷_, _++_}
+use Prim.Native.Nat.{ℕ, zero, suc, min, _+_, _-_, _*_, _≤_, _<_}
+use native.Mathlib.Omega.{arith}
+use native.Mathlib.Numerals.{add-one}
+use borrow.Author.Tests.{lt-ltb, le-ltb, le-leb, lt-leb}
+use lib.IntN.{ℤ}
+use lib.ListN.{length, getD, take, drop}
+use lib.Seq.{drop-drop, take-suc, take-take, take-all}
+use Rattle.model.specs.Tapes.{tapesIn, total}
+use Rattle.tapes.specs.Part.{Span, nothing, spanOf, IsPart}
+
+total-append : (xs ys : List ℕ) → total (xs ++ ys) ≡ total xs + total ys
+unfolding total
+total-append [] ys = omega arith
+total-append (x ∷ xs) ys = omega (arith, total-append xs ys)
+
+pub total-take : (ns : List ℕ) (i : ℕ) → i < length ns → total (take (i + 1) ns) ≡ total (take i ns) + getD ns i 0
+unfolding total
+total-take ns i h = rw (add-one, take-suc ns i 0 h) (total-append (take i ns) (getD ns i 0 ∷ []) ∙ omega arith)
+
+pub total-le : (ns : List ℕ) (i : ℕ) → total (take i ns) ≤ total ns
+unfolding total
+total-le ns zero = omega arith
+total-le [] (suc i) = omega arith
+total-le (n ∷ ns) (suc i) = omega (arith, total-le ns i)
+
+-- all lengths
+pub total-all : (ns : List ℕ) → total (take (length ns) ns) ≡ total ns
+total-all ns = ap total (take-all (length ns) ns (omega arith))
+
+pub total-none : (ns : List ℕ) → total (take 0 ns) ≡ 0
+unfolding total
+total-none ns = refl
+
+-- ---- the sum that stops at a cap
+module _ (ns : List ℕ) (i n cap : ℕ) (m : n ≤ length ns) where
+  pub capped-past : i < n → cap ≤ total (take i ns) + getD ns i 0 → cap ≡ min (total (take n ns)) cap
+  capped-past h k =
+      let e : take (i + 1) (take n ns) ≡ take (i + 1) ns = take-take (i + 1) n ns (omega arith) in
+      omega (arith, total-take ns i (omega arith), total-le (take n ns) (i + 1), ap total e)
+
+  pub capped-end : n ≤ i → i ≤ n → total (take i ns) ≤ cap → total (take i ns) ≡ min (total (take n ns)) cap
+  capped-end h h′ k = let e : i ≡ n = omega arith in omega (arith, ap (λ (q : ℕ). total (take q ns)) e)
+
+-- ---- the part of a tape
+module _ (ns : List ℕ) (a cells : ℕ) where
+  pub span-zero : a ≡ 0 → spanOf ns a cells ≡ nothing
+  unfolding spanOf
+  span-zero h = rw (le-ltb 0 a (omega arith))
+
+  pub span-past : 0 < a → length ns < a → spanOf ns a cells ≡ nothing
+  unfolding spanOf
+  span-past h k = rw (lt-ltb 0 a h, lt-leb a (length ns) k)
+
+  module _ (h : 0 < a) (k : a ≤ length ns) where
+    pub span-long : cells < total ns → spanOf ns a cells ≡ nothing
+    unfolding spanOf
+    span-long e = rw (lt-ltb 0 a h, le-leb a (length ns) k, lt-leb (total ns) cells e)
+
+    module _ (e : total ns ≤ cells) where
+      pub span-there : spanOf ns a cells ≡ record { start = total (take (a - 1) ns); count = getD ns (a - 1) 0 }
+      unfolding spanOf
+      span-there = rw (lt-ltb 0 a h, le-leb a (length ns) k, le-leb (total ns) cells e)
+
+      -- it lies in the row
+      pub span-inside : total (take (a - 1) ns) + getD ns (a - 1) 0 ≤ cells
+      span-inside = omega (arith, total-le ns (a - 1 + 1), total-take ns (a - 1) (omega arith))
+
+pub is-nothing : (s : Span) (row : List ℤ) (home place : ℕ × ℕ) → s ≡ nothing → place .0 ≡ home .0 → place .1 ≡ 0 * 4 + home .1
+    → IsPart s row home [] place
+is-nothing s row home place e b o =
+    subst (λ (q : Span). IsPart q row home [] place) (sym e) (record { records = refl; block = b; offset = o })
+
+pub is-there : (s : Span) (row : List ℤ) (home place : ℕ × ℕ) (a n a′ n′ : ℕ) → s ≡ record { start = a; count = n } → a′ ≡ a → n′ ≡ n
+    → place .0 ≡ home .0 → place .1 ≡ a′ * 4 + home .1 → IsPart s row home (take n′ (drop a′ row)) place
+is-there s row home place a n a′ n′ e p q b o = subst (λ (t : Span). IsPart t row home (take n′ (drop a′ row)) place) (sym e) (record {
+  records = ap (λ (i : ℕ). take i (drop a′ row)) q ∙ ap (λ (i : ℕ). take n (drop i row)) p;
+  block = b;
+  offset = omega arith;
+})
+
+-- ---- and it holds that tape of the row
+tape-at : (ns : List ℕ) (row : List ℤ) (i : ℕ) → i < length ns → getD (tapesIn ns row) i [] ≡ take (getD ns i 0) (drop (total (take i ns)) row)
+unfolding total
+tape-at [] row i h = absurd (omega arith)
+tape-at (n ∷ ns) row zero h = refl
+tape-at (n ∷ ns) row (suc i) h =
+    tape-at ns (drop n row) i (omega arith) ∙ ap (take (getD ns i 0)) (drop-drop (total (take i ns)) n row)
+
+pub part-tape : (ns : List ℕ) (a : ℕ) (row : List ℤ) (home part-place : ℕ × ℕ) (part : List ℤ) → 0 < a → a ≤ length ns → total ns ≤ length row
+    → IsPart (spanOf ns a (length row)) row home part part-place → part ≡ getD (tapesIn ns row) (a - 1) []
+part-tape ns a row home place part h k n p =
+    let e = span-there ns a (length row) h k n in
+    p .records ∙ ap (λ (s : Span). take (s .count) (drop (s .start) row)) e ∙ sym (tape-at ns row (a - 1) (omega arith))
