@@ -2,7 +2,7 @@
 use mathlib.Core.Path.{_≡_}
 use mathlib.Core.List.{List}
 use mathlib.Core.Option.{some}
-use Prim.Native.Nat.{ℕ, suc, _≤_}
+use Prim.Native.Nat.{ℕ, zero, suc, _≤_}
 use lib.IntN.{ℤ}
 use lib.ListN.{length}
 use Rattle.model.specs.Language.{Flow}
@@ -25,3 +25,8 @@ pub record Distance (flow : Flow) (i : ℕ) (e : Exit) (d : ℕ) : Type 0 where
 -- the distance is none: no T tapes take the exit
 abbrev pub NoDistance : Flow → ℕ → Exit → Type 0
 NoDistance flow i e = (tapes : List (List ℤ)) (n : ℕ) → length tapes ≡ flow .tapes → Takes flow tapes i e n → ⊥
+
+-- what a number says of the exit: its distance, or none for 0
+abbrev pub Says : Flow → ℕ → Exit → ℕ → Type 0
+Says flow i e zero = NoDistance flow i e
+Says flow i e (suc d) = Distance flow i e (suc d)

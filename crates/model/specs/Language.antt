@@ -1,6 +1,6 @@
 -- The base language L0 of Barzdin, Bicevskis and Kalninsh (document 000): its instructions, and a flow, which is a program of them.
 -- Tapes, outputs, variables and instructions carry the numbers of document 01, counted from 1.
-use mathlib.Core.Bool.{cond}
+use mathlib.Core.Bool.{Bool, true, false, cond}
 use mathlib.Core.List.{List, [], _∷_, _++_}
 use Prim.Native.Nat.{ℕ}
 use lib.IntN.{ℤ, pos}
@@ -29,6 +29,18 @@ pub record Flow : Type 0 where
 -- instruction number i; a number that names none counts as `stop`
 abbrev pub instruction : Flow → ℕ → Instruction
 instruction flow i = getD (stop ∷ flow .instructions) i stop
+
+-- whether an instruction has two exits: a read or a comparison
+abbrev pub hasExits : Instruction → Bool
+hasExits (read a v p m) = true
+hasExits (put v y n) = false
+hasExits (copy u v n) = false
+hasExits (const c v n) = false
+hasExits (less u v p m) = true
+hasExits (over c v p m) = true
+hasExits (under v c p m) = true
+hasExits (nop n) = false
+hasExits stop = false
 
 -- what a field of an instruction's line names
 pub data Field : Type 0 where

@@ -1,0 +1,4 @@
+pub mod Growing
+pub mod Visiting
+pub mod Fanning
+pub mod Exploring

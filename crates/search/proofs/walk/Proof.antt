@@ -1,0 +1,233 @@
+-- `walk` meets its contract. For every flow that the instructions are prepared from, the loop keeps its search with k entries expanded;
+-- its measure is the cells left. That there is such a flow keeps the indices in range.
+use mathlib.Core.Path.{refl, ap, _∙_}
+use mathlib.Core.Logic.{inl, inr}
+use Prim.Native.Nat.{ℕ, _+_, _-_, _%_}
+use native.Mathlib.Omega.{arith}
+use borrow.Author.Needs.{needs}
+use Rattle.cells.specs.Cells.{rows}
+use Rattle.search.specs.Search.{Subject, Exploring, SearchedIs}
+use Rattle.search.proofs.Growing.{Same}
+use Rattle.search.proofs.Fanning.{grown-to, grown-full}
+use Rattle.search.proofs.Exploring.{either, picked, entry-fine, entry-near, explored, explored-full, finished}
+use Rattle.search.proofs.walk.Statement.{statement}
+use Rattle.search.proofs.walk.Tie as tie
+
+abbrev Inv-loop : tie.InvT-loop
+Inv-loop places₀ patterns₀ distances₀ parents₀ heads₀ nexts₀ fans₀ cells w ops n₀ k₀ places patterns distances parents heads nexts fans n k =
+    let r₀ = rows places₀ patterns₀ distances₀ parents₀ heads₀ nexts₀ fans₀ in
+    let r = rows places patterns distances parents heads nexts fans in
+    ((s : Subject w ops) → Exploring (s .lo) w (s .flow) r₀ 1 cells 0 → Exploring (s .lo) w (s .flow) r n cells k) × Same r₀ r
+
+abbrev μ-loop : tie.MeasureT-loop
+μ-loop places₀ patterns₀ distances₀ parents₀ heads₀ nexts₀ fans₀ cells w ops n₀ k₀ places patterns distances parents heads nexts fans n k =
+    cells - k
+
+loop-holds : tie.Need-loop-holds Inv-loop μ-loop
+loop-holds c =
+    (λ s x. x, record { places = refl; patterns = refl; distances = refl; parents = refl; heads = refl; nexts = refl; fans = refl })
+
+mul-at : tie.Need-mul-at Inv-loop μ-loop
+mul-at c =
+    let at = c .before in
+    let start = at .before .before .before .before .before .before .before .before in
+    let s = start .pre .0 in
+    let x = at .loop .inv .0 s (start .pre .1) in
+    let i = x .ready .filled .index in
+    search needs
+
+slice-read-at : tie.Need-slice-read-at Inv-loop μ-loop
+slice-read-at c =
+    let at = c .before .before in
+    let start = at .before .before .before .before .before .before .before .before in
+    let s = start .pre .0 in
+    let x = at .loop .inv .0 s (start .pre .1) in
+    let i = x .ready .filled .index in
+    search needs
+
+at-requires : tie.Need-at-requires Inv-loop μ-loop
+at-requires c κs = search needs
+
+add-i : tie.Need-add-i Inv-loop μ-loop
+add-i c = search needs
+
+stop-requires : tie.Need-stop-requires Inv-loop μ-loop
+stop-requires c κs = search needs
+
+mul-op : tie.Need-mul-op Inv-loop μ-loop
+mul-op c = search needs
+
+array-copy-out-op : tie.Need-array-copy-out-op Inv-loop μ-loop
+array-copy-out-op c = search needs
+
+expand-requires : tie.Need-expand-requires Inv-loop μ-loop
+expand-requires c κs =
+    let joined = c .before .before .before .before .before .before .before in
+    let stopped = joined .before in
+    let placed = stopped .before in
+    let inside = placed .before .before in
+    let at = inside .before in
+    let start = at .before .before .before .before .before .before .before .before in
+    let s = start .pre .0 in
+    let x = at .loop .inv .0 s (start .pre .1) in
+    let pick = (picked (s .prepared) _ _ (ap (λ (n : ℕ). (n + 127) % 128) (placed .at .ensures .0))
+    (either (λ t. inl (t .0 .taken, t .2)) (λ t. inr (t .0 .left, t .1 ∙ stopped .stop .ensures)) (joined .if1 .came))) in
+    (x .ready, (inside .loop-test .taken, (entry-fine (s .fit) x (inside .loop-test .taken) pick, entry-near (s .fit) x (inside .loop-test .taken))))
+
+enum-known-g : tie.Need-enum-known-g Inv-loop μ-loop
+enum-known-g c = search needs
+
+enum-told : tie.Need-enum-told Inv-loop μ-loop
+enum-told c = search needs
+
+same-length : tie.Need-same-length Inv-loop μ-loop
+same-length c = search needs
+
+same-length-2 : tie.Need-same-length-2 Inv-loop μ-loop
+same-length-2 c = search needs
+
+same-length-3 : tie.Need-same-length-3 Inv-loop μ-loop
+same-length-3 c = search needs
+
+same-length-4 : tie.Need-same-length-4 Inv-loop μ-loop
+same-length-4 c = search needs
+
+same-length-5 : tie.Need-same-length-5 Inv-loop μ-loop
+same-length-5 c = search needs
+
+same-length-6 : tie.Need-same-length-6 Inv-loop μ-loop
+same-length-6 c = search needs
+
+same-length-7 : tie.Need-same-length-7 Inv-loop μ-loop
+same-length-7 c = search needs
+
+returns : tie.Need-returns Inv-loop μ-loop
+unfolding SearchedIs
+returns c =
+    let expanded = c .before .before .before .before .before .before .before .before .before .before .before .before .before .before in
+    let expanded = expanded .before .before in
+    let joined = expanded .before .before .before .before .before .before .before .before in
+    let stopped = joined .before in
+    let placed = stopped .before in
+    let inside = placed .before .before in
+    let at = inside .before in
+    λ s begun.
+    let x = at .loop .inv .0 s begun in
+    explored-full (s .fit) x (inside .loop-test .taken)
+    (picked (s .prepared) _ _ (ap (λ (n : ℕ). (n + 127) % 128) (placed .at .ensures .0))
+    (either (λ t. inl (t .0 .taken, t .2)) (λ t. inr (t .0 .left, t .1 ∙ stopped .stop .ensures)) (joined .if1 .came)))
+    (grown-full _ _ _ _ _ _ _ _ _ _ (expanded .expand .ensures) (c .enum-told .given .1))
+
+add-k : tie.Need-add-k Inv-loop μ-loop
+add-k c =
+    let inside = c .before .before .before .before .before .before .before .before .before .before .before .before .before .before in
+    let inside = inside .before .before .before .before .before .before .before .before .before .before .before .before .before .before in
+    let inside = inside .before in
+    let at = inside .before in
+    let start = at .before .before .before .before .before .before .before .before in
+    let s = start .pre .0 in
+    let x = at .loop .inv .0 s (start .pre .1) in
+    record { fits = omega (arith, x .ready .filled .index .within, x .ready .filled .index .few, inside .loop-test .taken) }
+
+loop-less : tie.Need-loop-less Inv-loop μ-loop
+loop-less c =
+    let inside = c .before .before .before .before .before .before .before .before .before .before .before .before .before .before in
+    let inside = inside .before .before .before .before .before .before .before .before .before .before .before .before .before .before in
+    let inside = inside .before in
+    let at = inside .before in
+    let start = at .before .before .before .before .before .before .before .before in
+    let s = start .pre .0 in
+    let x = at .loop .inv .0 s (start .pre .1) in
+    omega (arith, x .ready .filled .index .within, inside .loop-test .taken)
+
+loop-again : tie.Need-loop-again Inv-loop μ-loop
+loop-again c =
+    let grew = c .before in
+    let expanded = grew .before .before .before .before .before .before .before .before .before .before .before .before .before .before in
+    let expanded = expanded .before .before in
+    let joined = expanded .before .before .before .before .before .before .before .before in
+    let stopped = joined .before in
+    let placed = stopped .before in
+    let inside = placed .before .before in
+    let at = inside .before in
+    let g = at .loop .inv .1 in (
+      λ s begun.
+          let x = at .loop .inv .0 s begun in
+          explored (s .fit) x (inside .loop-test .taken)
+          (picked (s .prepared) _ _ (ap (λ (n : ℕ). (n + 127) % 128) (placed .at .ensures .0))
+          (either (λ t. inl (t .0 .taken, t .2)) (λ t. inr (t .0 .left, t .1 ∙ stopped .stop .ensures)) (joined .if1 .came)))
+          (grown-to _ _ _ _ _ _ _ _ _ _ (expanded .expand .ensures) (grew .g .given .1)) (expanded .expand .kept .1 .1 .1 .1 .1 .1 .0),
+      record {
+        places = expanded .expand .kept .0 ∙ g .places;
+        patterns = expanded .expand .kept .1 .0 ∙ g .patterns;
+        distances = expanded .expand .kept .1 .1 .0 ∙ g .distances;
+        parents = expanded .expand .kept .1 .1 .1 .0 ∙ g .parents;
+        heads = expanded .expand .kept .1 .1 .1 .1 .0 ∙ g .heads;
+        nexts = expanded .expand .kept .1 .1 .1 .1 .1 .0 ∙ g .nexts;
+        fans = expanded .expand .kept .1 .1 .1 .1 .1 .1 .0 ∙ g .fans;
+      },
+    )
+
+same-length-8 : tie.Need-same-length-8 Inv-loop μ-loop
+same-length-8 c = search needs
+
+same-length-9 : tie.Need-same-length-9 Inv-loop μ-loop
+same-length-9 c = search needs
+
+same-length-10 : tie.Need-same-length-10 Inv-loop μ-loop
+same-length-10 c = search needs
+
+same-length-11 : tie.Need-same-length-11 Inv-loop μ-loop
+same-length-11 c = search needs
+
+same-length-12 : tie.Need-same-length-12 Inv-loop μ-loop
+same-length-12 c = search needs
+
+same-length-13 : tie.Need-same-length-13 Inv-loop μ-loop
+same-length-13 c = search needs
+
+same-length-14 : tie.Need-same-length-14 Inv-loop μ-loop
+same-length-14 c = search needs
+
+returns-2 : tie.Need-returns-2 Inv-loop μ-loop
+unfolding SearchedIs
+returns-2 c = λ s begun. finished (s .fit) (c .before .loop .inv .0 s begun) (c .loop-test .left)
+
+pub walk-spec : {M : Type 1} → statement M
+walk-spec =
+    tie.close
+    (tie.spec
+    Inv-loop
+    μ-loop
+    loop-holds
+    mul-at
+    slice-read-at
+    at-requires
+    add-i
+    stop-requires
+    mul-op
+    array-copy-out-op
+    expand-requires
+    enum-known-g
+    enum-told
+    same-length
+    same-length-2
+    same-length-3
+    same-length-4
+    same-length-5
+    same-length-6
+    same-length-7
+    returns
+    add-k
+    loop-less
+    loop-again
+    same-length-8
+    same-length-9
+    same-length-10
+    same-length-11
+    same-length-12
+    same-length-13
+    same-length-14
+    returns-2)
+
+-- tmp

@@ -1,0 +1,45 @@
+-- What a search promises: it stores all configurations that a flow reaches, or says that they outnumber the cells.
+use mathlib.Core.Path.{_≡_}
+use mathlib.Core.List.{List}
+use Prim.Native.Nat.{ℕ, suc, _<_, _≤_}
+use lib.IntN.{ℤ}
+use lib.ListN.{length, getD}
+use Rattle.graph.specs.Lists.{MoreThan}
+use Rattle.graph.specs.Graph.{Reached}
+use Rattle.graph.proofs.Search.{Searching}
+use Rattle.model.specs.Language.{Flow, instruction}
+use Rattle.configuration.specs.Op.{opOf, readOp}
+use Rattle.configuration.specs.declared.Op.{Op}
+use Rattle.configuration.proofs.Steps.{Fit}
+use Rattle.cells.specs.Cells.{Rows}
+use Rattle.cells.specs.Entries.{Filled}
+use Rattle.table.specs.Passes.{Prepared}
+use Rattle.table.specs.Table.{wordGraph, tableOf, Complete}
+use Rattle.search.specs.Growth.{entriesOf}
+use Rattle.search.specs.Fan.{Ready}
+use Rattle.search.specs.declared.Searched.{Searched}
+use Rattle.search.specs.declared.Searched.the-variants.{Done, Full}
+
+-- what is searched: a flow of which ops are the prepared instructions
+pub record Subject (w : ℕ) (ops : List Op) : Type 0 where
+  pub lo : ℤ
+  pub hi : ℤ
+  pub flow : Flow
+  pub fit : Fit lo hi w flow
+  pub prepared : Prepared lo flow ops
+
+-- the search of a flow with k entries expanded
+pub record Exploring (lo : ℤ) (w : ℕ) (flow : Flow) (r : Rows) (count cells k : ℕ) : Type 0 where
+  pub ready : Ready w r count cells
+  pub searching : Searching (wordGraph lo w flow) (tableOf (entriesOf r) count) k
+
+-- the first n of the cells hold all configurations that are reached
+pub record Finished (lo : ℤ) (w : ℕ) (flow : Flow) (r : Rows) (cells n : ℕ) : Type 0 where
+  pub complete : Complete lo w flow (entriesOf r) n
+  pub filled : Filled (entriesOf r) (r .heads) (r .nexts) n cells
+  pub within : n ≤ cells
+
+-- what a search answers that has so many cells and leaves the rows r
+unfoldable pub SearchedIs : (lo : ℤ) (w : ℕ) → Flow → (r : Rows) (cells : ℕ) → Searched → Type 0
+SearchedIs lo w flow r cells (Done n) = Finished lo w flow r cells n
+SearchedIs lo w flow r cells Full = MoreThan (Reached (wordGraph lo w flow)) cells

@@ -1,0 +1,101 @@
+-- `reads` meets its contract: the counts are those of the steps passed (proofs/Reading.antt).
+use mathlib.Core.Path.{_≡_, sym, ap, _∙_, subst}
+use Prim.Native.Nat.{ℕ, _-_, _≤_}
+use native.Mathlib.Omega.{arith}
+use borrow.Author.Needs.{needs}
+use mathlib.Core.List.{List}
+use lib.ListN.{getD}
+use denote.Ref.{now}
+use Rattle.configuration.specs.Place.{atOf}
+use Rattle.configuration.specs.Step.{endedOf}
+use Rattle.table.specs.Passes.{blank, Stands}
+use Rattle.table.specs.Way.{readsOn}
+use Rattle.table.proofs.Reading.{reads-start, reads-more, reads-few}
+use Rattle.table.proofs.reads.Statement.{statement}
+use Rattle.table.proofs.reads.Tie as tie
+
+abbrev Inv-loop : tie.InvT-loop
+Inv-loop path places last ops counts₀ t₀ counts t = (t ≤ last) × (counts ≡ readsOn ops places path t)
+
+abbrev μ-loop : tie.MeasureT-loop
+μ-loop path places last ops counts₀ t₀ counts t = last - t
+
+loop-holds : tie.Need-loop-holds Inv-loop μ-loop
+loop-holds c = (search needs, reads-start _ _ _)
+
+place-on-requires : tie.Need-place-on-requires Inv-loop μ-loop
+place-on-requires c κs =
+    let p = c .before .before .before .before .pre in
+    let l = c .loop-test .taken in
+    (omega (arith, p .room, l), p .entry _ (omega (arith, l)))
+
+index-requires : tie.Need-index-requires Inv-loop μ-loop
+index-requires c κs =
+    let p = c .before .before .before .before .before .pre in
+    subst Stands (sym (c .place-on .ensures)) (p .stands _ (omega (arith, c .before .loop-test .taken)))
+
+mul-op : tie.Need-mul-op Inv-loop μ-loop
+mul-op c = search needs
+
+array-copy-out-op : tie.Need-array-copy-out-op Inv-loop μ-loop
+array-copy-out-op c = search needs
+
+add-t : tie.Need-add-t Inv-loop μ-loop
+add-t c = search needs
+
+place-on-requires-2 : tie.Need-place-on-requires-2 Inv-loop μ-loop
+place-on-requires-2 c κs =
+    let p = c .before .before .before .before .before .before .before .pre in
+    let l = c .before .before .before .loop-test .taken in
+    (omega (arith, p .room, l), p .entry _ (omega (arith, l)))
+
+ended-requires : tie.Need-ended-requires Inv-loop μ-loop
+ended-requires c κs = search needs
+
+counted-requires : tie.Need-counted-requires Inv-loop μ-loop
+counted-requires c κs a =
+    let l = c .before .before .before .before .before .before .loop in
+    let s = c .before .before .before .before .before .before .before .before .before in
+    let e = ap (λ (r : List ℕ). getD r a 0) (l .inv .1) in
+    omega (arith, e, reads-few (s .args .t3) (now (s .args .places)) (now (s .args .path)) (l .t) a, l .inv .0, s .pre .few)
+
+loop-less : tie.Need-loop-less Inv-loop μ-loop
+loop-less c = search needs
+
+loop-again : tie.Need-loop-again Inv-loop μ-loop
+loop-again c =
+    let s = c .before .before .before .before .before .before .before .before .before .before .args in
+    let l = c .before .before .before .before .before .before .before .loop in
+    let i = c .before .before .before .before .index in
+    let next = c .before .before .place-on2 .ensures in
+    let ended = c .before .ended .ensures ∙ ap (λ (p : ℕ). endedOf p (getD (s .t3) (i .result) blank .tape)) next in (
+      search needs,
+      reads-more (s .t3) (now (s .places)) (now (s .path)) (l .t) (i .result) (l .counts) _ _ (l .inv .1)
+          (ap atOf (sym (c .before .before .before .before .before .place-on .ensures)) ∙ i .ensures .0) ended (c .counted .ensures),
+    )
+
+returns : tie.Need-returns Inv-loop μ-loop
+returns c =
+    let s = c .before .before .before .before .args in
+    let l = c .before .loop in
+    let e : l .t ≡ s .last = omega (arith, l .inv .0, c .loop-test .left) in
+    l .inv .1 ∙ ap (readsOn (s .t3) (now (s .places)) (now (s .path))) e
+
+pub reads-spec : {M : Type 1} → statement M
+reads-spec =
+    tie.close
+    (tie.spec
+    Inv-loop
+    μ-loop
+    loop-holds
+    place-on-requires
+    index-requires
+    mul-op
+    array-copy-out-op
+    add-t
+    place-on-requires-2
+    ended-requires
+    counted-requires
+    loop-less
+    loop-again
+    returns)

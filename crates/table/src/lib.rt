@@ -1,0 +1,199 @@
+// Passes over the entries of a finished table of configurations (specs/Table.antt): the distances of all exits, the entry that is nearest to
+// one exit, and how many records each tape yields on the way to an entry. What they find is said in specs/Passes.antt and specs/Way.antt;
+// the laws of proofs/ lead from there to the distances and the count of configurations of document 01.
+
+ghost use mathlib.Core.Path.{_≡_};
+ghost use mathlib.Core.Bool.{cond, _&&_};
+ghost use Prim.Native.Nat.{_+_, _≤_, _<_};
+ghost use lib.ListN.{length, getD};
+ghost use lib.Dec.{eqb};
+ghost use Rattle.model.specs.Machine.{exitIf};
+ghost use Rattle.configuration.specs.Inner.{Below};
+ghost use Rattle.configuration.specs.Pattern.{Width};
+ghost use Rattle.configuration.specs.Place.{atOf};
+ghost use Rattle.configuration.specs.Step.{takesOf};
+ghost use Rattle.table.specs.Passes.{Stands, Walkable, takesAt, FirstIs, ExitsOf};
+ghost use Rattle.table.specs.Way.{placeOn, Passable, isRead, countedOf, readsOn};
+use cells::Found;
+use configuration::Action;
+use configuration::Op;
+use configuration::Words;
+use configuration::place;
+use flow::Flow;
+
+// The tapes of a way: those that a flow does not have yield nothing.
+const TAPES: usize = Flow::MAX_TAPES as usize;
+
+// The distances of the exits p and m of every instruction, that of instruction i at i - 1; 0 for none.
+pub struct Distances {
+    pub p: [u32; Flow::MAX_INSTRUCTIONS],
+    pub m: [u32; Flow::MAX_INSTRUCTIONS],
+}
+
+// Where an array holds what belongs to the instruction that a place word stands at.
+fn index(place: u64) -> usize
+    requires { ⌜ Stands place ⌝ }
+    ensures { λ r. ⌜ (atOf place ≡ r + 1) × (r < 64) ⌝ }
+{
+    place::at(place) - 1
+}
+
+// What is listed for an exit after an entry at a distance of d - 1: the first that takes it stays.
+fn kept(cell: u32, taken: bool, d: u32) -> u32
+    ensures { λ r. ⌜ r ≡ cond (taken && eqb cell 0) d cell ⌝ }
+{
+    if taken {
+        if cell == 0 {
+            return d;
+        }
+    }
+    cell
+}
+
+// The distances of all exits.
+pub fn exits(
+    places: &[u64],
+    patterns: &[u64],
+    distances: &[u32],
+    n: usize,
+    ops: [Op; Flow::MAX_INSTRUCTIONS],
+    w: u64,
+) -> Distances
+    requires { ⌜ Width w ⌝ }
+    requires { ⌜ Walkable (now places) (now patterns) (now distances) n ⌝ }
+    ensures { λ r. ⌜ ExitsOf w (now (places .entry)) (now (patterns .entry)) (now (distances .entry)) n ops r ⌝ }
+{
+    let mut p: [u32; Flow::MAX_INSTRUCTIONS] = [0; Flow::MAX_INSTRUCTIONS];
+    let mut m: [u32; Flow::MAX_INSTRUCTIONS] = [0; Flow::MAX_INSTRUCTIONS];
+    let mut k = 0;
+    while k < n {
+        let x = Words {
+            place: places[k],
+            pattern: patterns[k],
+        };
+        let i = index(x.place);
+        let op = ops[i];
+        let taken = configuration::exits_of(op, w, x);
+        let d = distances[k] + 1;
+        p[i] = kept(p[i], taken.p, d);
+        m[i] = kept(m[i], taken.m, d);
+        k += 1;
+    }
+    Distances { p, m }
+}
+
+// Whether words stand at the instruction, prepared as op, and can take the exit, p if `exit`.
+fn takes(x: Words, op: Op, w: u64, instruction: usize, exit: bool) -> bool
+    requires { ⌜ Width w ⌝ }
+    ensures { λ r. ⌜ r ≡ (eqb (atOf (x .place)) instruction && takesOf w op x (exitIf exit)) ⌝ }
+{
+    if place::at(x.place) != instruction {
+        return false;
+    }
+    let taken = configuration::exits_of(op, w, x);
+    if exit {
+        return taken.p;
+    }
+    taken.m
+}
+
+// The first entry that stands at the instruction, prepared as op, and takes the exit, p if `exit`: none is nearer.
+pub fn nearest(
+    places: &[u64],
+    patterns: &[u64],
+    n: usize,
+    op: Op,
+    w: u64,
+    instruction: usize,
+    exit: bool,
+) -> Found
+    requires { ⌜ Width w ⌝ }
+    requires { ⌜ n ≤ length (now places) ⌝ }
+    requires { ⌜ n ≤ length (now patterns) ⌝ }
+    ensures { λ r. ⌜ FirstIs (takesAt w (now (places .entry)) (now (patterns .entry)) op instruction (exitIf exit)) n r ⌝ }
+{
+    let mut k = 0;
+    while k < n {
+        let x = Words {
+            place: places[k],
+            pattern: patterns[k],
+        };
+        if takes(x, op, w, instruction, exit) {
+            return Found::At(k);
+        }
+        k += 1;
+    }
+    Found::Nothing
+}
+
+fn is_read(action: Action) -> bool
+    ensures { λ r. ⌜ r ≡ isRead action ⌝ }
+{
+    match action {
+        Action::Read => true,
+        Action::Assign => false,
+        Action::Test => false,
+        Action::Go => false,
+        Action::Stop => false,
+    }
+}
+
+// Counts the record, if any, that a step of op takes; `taken` if it takes exit p.
+pub fn counted(counts: [u32; TAPES], op: Op, taken: bool) -> [u32; TAPES]
+    requires { ⌜ Below 4294967295 counts ⌝ }
+    ensures { λ r. ⌜ r ≡ countedOf counts op taken ⌝ }
+{
+    let action = op.action;
+    if !is_read(action) {
+        return counts;
+    }
+    if !taken {
+        return counts;
+    }
+    let a = op.tape as usize;
+    if TAPES <= a {
+        return counts;
+    }
+    let mut more = counts;
+    more[a] = more[a] + 1;
+    more
+}
+
+fn wide(x: u32) -> usize
+    ensures { λ r. ⌜ r ≡ x ⌝ }
+{
+    x as usize
+}
+
+// The place word of the entry that stands at place t of a way.
+pub fn place_on(path: &[u32], places: &[u64], t: usize) -> u64
+    requires { ⌜ t < length (now path) ⌝ }
+    requires { ⌜ getD (now path) t 0 < length (now places) ⌝ }
+    ensures { λ r. ⌜ r ≡ placeOn (now (places .entry)) (now (path .entry)) t ⌝ }
+{
+    let k = wide(path[t]);
+    places[k]
+}
+
+// How many records of each tape the steps of a way take, without the step that its last entry takes.
+pub fn reads(
+    path: &[u32],
+    places: &[u64],
+    ops: [Op; Flow::MAX_INSTRUCTIONS],
+    last: usize,
+) -> [u32; TAPES]
+    requires { ⌜ Passable (now places) (now path) last ⌝ }
+    ensures { λ r. ⌜ r ≡ readsOn ops (now (places .entry)) (now (path .entry)) last ⌝ }
+{
+    let mut counts: [u32; TAPES] = [0; TAPES];
+    let mut t = 0;
+    while t < last {
+        let i = index(place_on(path, places, t));
+        let op = ops[i];
+        t += 1;
+        let ended = place::ended(place_on(path, places, t), op.tape);
+        let more = counted(counts, op, !ended);
+        counts = more;
+    }
+    counts
+}
