@@ -1,0 +1,269 @@
+// The tapes of a sample (document 01, "Distances and configurations"). The way to an entry of a finished table is walked forward, and the
+// records that its steps take are written into the lent row.
+ghost use mathlib.Core.Path.{_≡_};
+ghost use mathlib.Core.Bool.{true, _&&_};
+ghost use Prim.Native.Nat.{suc, _-_, _≤_, _<_};
+ghost use lib.ListN.{length, getD};
+ghost use Rattle.model.specs.Language.{Flow as FlowOf};
+ghost use Rattle.flow.specs.Limits.{maxInstructions};
+ghost use Rattle.configuration.specs.Place.{words, atOf};
+ghost use Rattle.configuration.specs.Pattern.{Width, laneOf, valueOf};
+ghost use Rattle.configuration.proofs.Span.{real};
+ghost use Rattle.tapes.specs.Moves.{Movable};
+ghost use Rattle.tapes.specs.Reading.{Ready};
+ghost use Rattle.table.specs.Passes.{Stands};
+ghost use Rattle.table.specs.Way.{placeOn, Passable, isRead, countedOf, readsOn};
+ghost use Rattle.sample.specs.Steps.{wishOf, takesRecord, termIn, quietWalk, walkTo, rowTo, lastRow, Fine, Low};
+ghost use Rattle.sample.specs.Sampling.{course, Leads, Ends, Roomy, Following, Written};
+use configuration::Action;
+use configuration::Op;
+use configuration::Words;
+use configuration::pattern;
+use configuration::place;
+use flow::Flow;
+use tapes::Walk;
+
+const TAPES: usize = Flow::MAX_TAPES as usize;
+
+// The value by which the code of variable u is tried.
+fn wish_at(word: u64, w: u64, lo: i32, u: u8) -> i32
+    requires { ⌜ Width w ⌝ }
+    requires { ⌜ Low lo ⌝ }
+    ensures { λ r. ⌜ r ≡ real lo (valueOf w (laneOf word u)) ⌝ }
+{
+    let c = pattern::lane(word, u);
+    let y = pattern::value(c, w);
+    lo - 16 + y as i32
+}
+
+// Values of the pattern of a word.
+fn wish_of(word: u64, w: u64, lo: i32) -> [i32; 4]
+    requires { ⌜ Width w ⌝ }
+    requires { ⌜ Low lo ⌝ }
+    ensures { λ r. ⌜ r ≡ wishOf lo w word ⌝ }
+{
+    let a = wish_at(word, w, lo, 0);
+    let b = wish_at(word, w, lo, 1);
+    let c = wish_at(word, w, lo, 2);
+    let d = wish_at(word, w, lo, 3);
+    [a, b, c, d]
+}
+
+// The value of term u: a variable, or the constant.
+fn term(values: [i32; 4], op: Op, lo: i32, u: u8) -> i32
+    requires { ⌜ Fine op ⌝ }
+    requires { ⌜ Low lo ⌝ }
+    ensures { λ r. ⌜ r ≡ termIn lo op values u ⌝ }
+{
+    if u < 4 {
+        return values[u as usize];
+    }
+    lo + op.constant as i32
+}
+
+// A step that reads no record.
+fn quiet(walk: Walk, op: Op, lo: i32) -> Walk
+    requires { ⌜ Fine op ⌝ }
+    requires { ⌜ Low lo ⌝ }
+    ensures { λ r. ⌜ r ≡ quietWalk lo op walk ⌝ }
+{
+    let action = op.action;
+    match action {
+        Action::Read => {
+            return walk;
+        }
+        Action::Assign => {
+            let mut values = walk.values;
+            let counts = walk.counts;
+            let starts = walk.starts;
+            let x = term(values, op, lo, op.left);
+            let v = op.variable as usize;
+            values[v] = x;
+            return Walk {
+                values,
+                counts,
+                starts,
+            };
+        }
+        Action::Test => {
+            return walk;
+        }
+        Action::Go => {
+            return walk;
+        }
+        Action::Stop => {
+            return walk;
+        }
+    }
+}
+
+fn is_read(action: Action) -> bool
+    ensures { λ r. ⌜ r ≡ isRead action ⌝ }
+{
+    match action {
+        Action::Read => true,
+        Action::Assign => false,
+        Action::Test => false,
+        Action::Go => false,
+        Action::Stop => false,
+    }
+}
+
+// Whether a step to the place word reads a record: a read that finds none ends its tape.
+fn takes_record(op: Op, next: Words) -> bool
+    ensures { λ r. ⌜ r ≡ takesRecord op next ⌝ }
+{
+    let action = op.action;
+    if is_read(action) {
+        let ended = place::ended(next.place, op.tape);
+        return !ended;
+    }
+    false
+}
+
+// One step, of whatever kind, to the words `next`.
+fn step(row: &mut [i32], walk: Walk, op: Op, next: Words, w: u64, lo: i32, hi: i32) -> Walk
+    requires { ⌜ Width w ⌝ }
+    requires { ⌜ Low lo ⌝ }
+    requires { ⌜ Fine op ⌝ }
+    requires { ⌜ (takesRecord op next ≡ true → Ready walk (op .tape) (op .variable) (now row) × Movable lo × Movable hi) ⌝ }
+    ensures { λ r. ⌜ (r ≡ walkTo lo hi w op next walk) × (now (row .exit) ≡ rowTo lo hi w op next walk (now (row .entry))) ⌝ }
+{
+    if takes_record(op, next) {
+        let wish = wish_of(next.pattern, w, lo);
+        let a = op.tape as usize;
+        let v = op.variable as usize;
+        return tapes::read_one(row, walk, lo, hi, wish, a, v);
+    }
+    quiet(walk, op, lo)
+}
+
+// The record of the last step, if it takes p of a read: 0, if the values allow it.
+fn last_read(row: &mut [i32], walk: Walk, op: Op, exit: bool, lo: i32, hi: i32)
+    requires { ⌜ Fine op ⌝ }
+    requires { ⌜ ((isRead (op .action) && exit) ≡ true → Ready walk (op .tape) (op .variable) (now row) × Movable lo × Movable hi) ⌝ }
+    ensures { λ _. ⌜ now (row .exit) ≡ lastRow lo hi op exit walk (now (row .entry)) ⌝ }
+{
+    let action = op.action;
+    if is_read(action) {
+        if exit {
+            let mut wish = walk.values;
+            let a = op.tape as usize;
+            let v = op.variable as usize;
+            wish[v] = 0;
+            tapes::read_one(row, walk, lo, hi, wish, a, v);
+        }
+    }
+}
+
+// Where an array holds what belongs to the instruction that a place word stands at.
+fn index(place: u64) -> usize
+    requires { ⌜ Stands place ⌝ }
+    ensures { λ r. ⌜ (r ≡ atOf place - 1) × (r < maxInstructions) ⌝ }
+{
+    place::at(place) - 1
+}
+
+fn wide(x: u32) -> usize
+    ensures { λ r. ⌜ r ≡ x ⌝ }
+{
+    x as usize
+}
+
+// The words at place t of a way.
+fn words_on(places: &[u64], patterns: &[u64], path: &[u32], t: usize) -> Words
+    requires { ⌜ t < length (now path) ⌝ }
+    requires { ⌜ getD (now path) t 0 < length (now places) ⌝ }
+    requires { ⌜ getD (now path) t 0 < length (now patterns) ⌝ }
+    ensures { λ r. ⌜ r ≡ words (placeOn (now (places .entry)) (now (path .entry)) t)
+        (getD (now (patterns .entry)) (getD (now (path .entry)) t 0) 0) ⌝ }
+{
+    let k = wide(path[t]);
+    Words {
+        place: places[k],
+        pattern: patterns[k],
+    }
+}
+
+// How many records of each tape the steps of a way take, with the step by which op takes the exit, p if `exit`, at its end.
+fn sizes_of(
+    places: &[u64],
+    path: &[u32],
+    steps: usize,
+    ops: [Op; Flow::MAX_INSTRUCTIONS],
+    op: Op,
+    exit: bool,
+) -> [usize; TAPES]
+    requires { ⌜ Passable (now places) (now path) steps ⌝ }
+    ensures { λ r. ⌜ r ≡ countedOf (readsOn ops (now (places .entry)) (now (path .entry)) steps) op exit ⌝ }
+{
+    let counts = table::reads(path, places, ops, steps);
+    let all = table::counted(counts, op, exit);
+    let a = wide(all[0]);
+    let b = wide(all[1]);
+    let c = wide(all[2]);
+    [a, b, c]
+}
+
+// The steps of a way, from its start to its end.
+fn write_steps(
+    places: &[u64],
+    patterns: &[u64],
+    path: &[u32],
+    steps: usize,
+    ops: [Op; Flow::MAX_INSTRUCTIONS],
+    w: u64,
+    lo: i32,
+    hi: i32,
+    sizes: [usize; TAPES],
+    row: &mut [i32],
+) -> Walk
+    requires { ⌜ ((flow : FlowOf) × Leads (course (now places) (now patterns) (now path) steps ops w lo hi) flow) ⌝ }
+    requires { ⌜ Roomy (course (now places) (now patterns) (now path) steps ops w lo hi) sizes (length (now row)) ⌝ }
+    ensures { λ r. ⌜ ((flow : FlowOf)
+        → Leads (course (now (places .entry)) (now (patterns .entry)) (now (path .entry)) steps ops w lo hi) flow
+        → Following (course (now (places .entry)) (now (patterns .entry)) (now (path .entry)) steps ops w lo hi) flow sizes
+        (now (row .entry)) steps r (now (row .exit))) ⌝ }
+{
+    let mut walk = tapes::first_walk(sizes);
+    let mut t = 0;
+    while t < steps {
+        let here = words_on(places, patterns, path, t);
+        let i = index(here.place);
+        let op = ops[i];
+        t += 1;
+        let next = words_on(places, patterns, path, t);
+        walk = step(row, walk, op, next, w, lo, hi);
+    }
+    walk
+}
+
+// A sample for the exit, p if `exit`, of the instruction at the end of a way: its records in the row, and the lengths of its tapes.
+pub fn write_sample(
+    places: &[u64],
+    patterns: &[u64],
+    path: &[u32],
+    steps: usize,
+    ops: [Op; Flow::MAX_INSTRUCTIONS],
+    w: u64,
+    lo: i32,
+    hi: i32,
+    exit: bool,
+    row: &mut [i32],
+) -> [usize; TAPES]
+    requires { ⌜ ((flow : FlowOf) × Leads (course (now places) (now patterns) (now path) steps ops w lo hi) flow
+        × Ends (course (now places) (now patterns) (now path) steps ops w lo hi) flow exit) ⌝ }
+    requires { ⌜ suc steps ≤ length (now row) ⌝ }
+    ensures { λ r. ⌜ ((flow : FlowOf)
+        → Leads (course (now (places .entry)) (now (patterns .entry)) (now (path .entry)) steps ops w lo hi) flow
+        → Ends (course (now (places .entry)) (now (patterns .entry)) (now (path .entry)) steps ops w lo hi) flow exit
+        → Written (course (now (places .entry)) (now (patterns .entry)) (now (path .entry)) steps ops w lo hi) flow exit
+        (now (row .entry)) (now (row .exit)) r) ⌝ }
+{
+    let i = index(table::place_on(path, places, steps));
+    let op = ops[i];
+    let sizes = sizes_of(places, path, steps, ops, op, exit);
+    let walk = write_steps(places, patterns, path, steps, ops, w, lo, hi, sizes, row);
+    last_read(row, walk, op, exit, lo, hi);
+    sizes
+}
