@@ -1,3 +1,5 @@
 pub mod Lengths
 pub mod RunLaws
+pub mod Tables
+pub mod ReportLaws
 pub mod Starred

@@ -82,17 +82,23 @@ read-fault text r reading e a = go (readFlow text) (sym (ap (λ (x : Reading). x
 pub record Read (text : List ℕ) (rows : Rows) : Type 0 where
   pub read : readFlow text ≡ ok (flowOf rows)
   pub legal : Legal (flowOf rows)
+  pub few : rows .count ≤ 64
 
 pub read-ok : (text : List ℕ) (reading : Reading) → reading ≡ readingOf (readFlow text) → reading .answer ≡ Answers.the-variants.Legal
     → Read text (reading .flow)
-unfolding readingOf
+unfolding readingOf rowsOf
 read-ok text reading e a = go (readFlow text) refl
   where
     go : (o : Checked Flow) → readFlow text ≡ o → Read text (reading .flow)
     go (ok f) h =
         let rows : reading .flow ≡ rowsOf f = ap (λ (x : Reading). x .flow) e ∙ ap (λ (o : Checked Flow). readingOf o .flow) h in
         let back : flowOf (reading .flow) ≡ f = ap flowOf rows ∙ flow-back f in
-        record { read = h ∙ ap ok (sym back); legal = subst⁻¹ Legal back (read-legal text f h) }
+        let legal = read-legal text f h in
+        record {
+          read = h ∙ ap ok (sym back);
+          legal = subst⁻¹ Legal back legal;
+          few = omega (arith, ap (λ (x : Rows). x .count) rows, legal .size .1);
+        }
     go (fault q) h =
         let z : _≡_ {A = ℕ} 0 1 = cc (ap (λ (x : Reading). x .answer) e, ap (λ (o : Checked Flow). readingOf o .answer) h) in absurd (omega arith)
 

@@ -1,8 +1,11 @@
 // The tape maker: what a maker calls. Each function takes a flow as text, refuses a faulty request itself, and has no condition on
 // its caller; specs/ has one definition for each.
 mod running; // running.rt: the request for a run
+mod reporting; // reporting.rt: the report of a flow that was read
 
+ghost use Rattle.cells.specs.Cells.{rows};
 ghost use Rattle.tape_maker.specs.Run.{requested, RunIs};
+ghost use Rattle.tape_maker.specs.Report.{ReportIs};
 use flow::Answer;
 use flow::Flow;
 use flow::Refusal;
@@ -43,5 +46,59 @@ pub fn run(
     match answer {
         Answer::Refused(r) => running::refused(r),
         Answer::Legal => running::run_flow(flow, limit, records, lengths, numbers, values),
+    }
+}
+
+// Whether a report was made.
+pub enum ReportEnd {
+    Given,
+    Refused(Refusal),
+}
+
+// The report of a flow: its instructions, its reachable configurations, and for each instruction whether it has two exits and the
+// distance of each; 0 stands for none.
+pub struct ReportAnswer {
+    pub end: ReportEnd,
+    pub instructions: usize,
+    pub configurations: usize,
+    pub two: [bool; Flow::MAX_INSTRUCTIONS],
+    pub p: [u32; Flow::MAX_INSTRUCTIONS],
+    pub m: [u32; Flow::MAX_INSTRUCTIONS],
+}
+
+// Reports the distance of every exit of a flow. The work rows are lent; the shortest counts, at most 65,536 cells of it.
+pub fn report(
+    text: &[u8],
+    places: &mut [u64],
+    patterns: &mut [u64],
+    distances: &mut [u32],
+    parents: &mut [u32],
+    heads: &mut [u32],
+    nexts: &mut [u32],
+    fans: &mut [u8],
+) -> ReportAnswer
+    ensures { λ r. ⌜ ReportIs (now (text .entry))
+        (rows (now (places .entry)) (now (patterns .entry)) (now (distances .entry)) (now (parents .entry)) (now (heads .entry)) (now (nexts .entry)) (now (fans .entry)))
+        (rows (now (places .exit)) (now (patterns .exit)) (now (distances .exit)) (now (parents .exit)) (now (heads .exit)) (now (nexts .exit)) (now (fans .exit)))
+        r ⌝ }
+{
+    let reading = flow::read(text);
+    let answer = reading.answer;
+    let flow = reading.flow;
+    match answer {
+        Answer::Refused(r) => {
+            cells::clear(places, patterns, distances, parents, heads, nexts, fans);
+            reporting::refused(r)
+        }
+        Answer::Legal => reporting::report_flow(
+            places,
+            patterns,
+            distances,
+            parents,
+            heads,
+            nexts,
+            fans,
+            flow,
+        ),
     }
 }
