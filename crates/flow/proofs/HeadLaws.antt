@@ -1,13 +1,12 @@
 -- Line 1 by the code's steps: the word, the count of fields, the three numbers, their ranges.
-use mathlib.Core.Path.{_≡_, refl, sym, ap, _∙_, subst}
+use mathlib.Core.Path.{_≡_, refl, ap, _∙_, subst}
 use mathlib.Core.Bool.{Bool, true, false, _&&_}
-use mathlib.Core.List.{List, [], _∷_}
-use mathlib.Core.Option.{Option, none, some}
+use mathlib.Core.List.{List, []}
+use mathlib.Core.Option.{none, some}
 use Prim.Native.Nat.{ℕ, _≤_, _<_}
 use native.Mathlib.Omega.{arith}
-use borrow.Author.Tests.{leb-true, ne-eqb, eq-eqb, le-leb, lt-leb}
+use borrow.Author.Tests.{leb-true, eqb-true, ne-eqb, eq-eqb, lt-leb}
 use lib.Dec.{leb, eqb}
-use lib.IntN.{ℤ, pos, natAbs}
 use lib.ListN.{length, getD}
 use Rattle.text.specs.Bytes.{bytes}
 use Rattle.text.specs.Split.{sameWord}
@@ -18,7 +17,7 @@ use Rattle.flow.specs.Read.{Checked, ok, fault, check, given, headOf, re
 use Rattle.flow.specs.Inner.{small, HeadFits}
 use Rattle.flow.specs.declared.Head.{Head}
 use Rattle.flow.specs.declared.Refusal.the-variants.{UnknownWord, WrongCount, BadNumber, OutOfRange}
-use Rattle.flow.proofs.ClampLaws.{and-split, small-range, small-kept}
+use Rattle.flow.proofs.ClampLaws.{and-split, small-range}
 use Rattle.flow.proofs.ReadLaws.{check-ok, given-ok}
 
 -- counts that were clamped are judged as they were written
@@ -74,16 +73,39 @@ head-fits t o v h e =
     let same : heads t o v ≡ h = cc in
     subst HeadFits same (record { tapes = r .tapes; outputs = r .outputs; variables = r .variables })
 
-pub head-read-fits : (fs : List (List ℕ)) (h : Head) → readHead fs ≡ ok h → HeadFits h
-unfolding readHead
-head-read-fits fs h e =
+-- line 1 that is read, by its checks
+pub record HeadRead (fs : List (List ℕ)) (h : Head) : Type 0 where
+  pub word : sameWord (getD fs 0 []) (bytes "flow") ≡ true
+  pub counted : length fs ≡ 4
+  pub tapes : natural (getD fs 1 []) ≡ some (h .tapes)
+  pub outputs : natural (getD fs 2 []) ≡ some (h .outputs)
+  pub variables : natural (getD fs 3 []) ≡ some (h .variables)
+  pub fits : HeadFits h
+
+pub head-read : (fs : List (List ℕ)) (h : Head) → readHead fs ≡ ok h → HeadRead fs h
+unfolding readHead headOf
+head-read fs h e =
     let (w, e₁) = check-ok (sameWord (getD fs 0 []) (bytes "flow")) (UnknownWord 1) (check (eqb (length fs) 4) (WrongCount 1) by-tapes) e in
     let (n, e₂) = check-ok (eqb (length fs) 4) (WrongCount 1) by-tapes e₁ in
     let (t, t-is, e₃) = given-ok (natural (getD fs 1 [])) (BadNumber 1) by-outputs e₂ in
     let (o, o-is, e₄) = given-ok (natural (getD fs 2 [])) (BadNumber 1) (by-variables t) e₃ in
     let (v, v-is, e₅) = given-ok (natural (getD fs 3 [])) (BadNumber 1) (headOf t o) e₄ in
-    head-fits t o v h e₅
+    let (f, e₆) = check-ok (fits t o v) (OutOfRange 1) (ok (heads t o v)) e₅ in
+    found t o v (cc) w (eqb-true (length fs) 4 n) t-is o-is v-is (head-fits t o v h e₅)
   where
+    found : (t o v : ℕ) → heads t o v ≡ h → sameWord (getD fs 0 []) (bytes "flow") ≡ true → length fs ≡ 4
+        → natural (getD fs 1 []) ≡ some t → natural (getD fs 2 []) ≡ some o → natural (getD fs 3 []) ≡ some v
+        → HeadFits h → HeadRead fs h
+    found t o v same w count t-is o-is v-is f =
+        record {
+          word = w;
+          counted = count;
+          tapes = t-is ∙ ap (λ (g : Head). some (g .tapes)) same;
+          outputs = o-is ∙ ap (λ (g : Head). some (g .outputs)) same;
+          variables = v-is ∙ ap (λ (g : Head). some (g .variables)) same;
+          fits = f;
+        }
+
     by-variables : ℕ → ℕ → Checked Head
     by-variables t o = given (natural (getD fs 3 [])) (BadNumber 1) (headOf t o)
 
@@ -92,6 +114,9 @@ head-read-fits fs h e =
 
     by-tapes : Checked Head
     by-tapes = given (natural (getD fs 1 [])) (BadNumber 1) by-outputs
+
+pub head-read-fits : (fs : List (List ℕ)) (h : Head) → readHead fs ≡ ok h → HeadFits h
+head-read-fits fs h e = head-read fs h e .fits
 
 -- ---- the steps of the code
 module _ (fs : List (List ℕ)) where

@@ -1,16 +1,16 @@
 -- A text that is read gives a legal flow, and the rows that hold a flow give it back.
-use mathlib.Core.Path.{_≡_, refl, sym, ap, ap₂, _∙_, subst}
+use mathlib.Core.Path.{_≡_, refl, ap, ap₂, _∙_, subst}
 use mathlib.Core.Bool.{Bool, true, false, _&&_}
-use mathlib.Core.List.{List, [], _∷_, _++_, map, map-map}
+use mathlib.Core.List.{List, [], _∷_, map}
 use mathlib.Core.Logic.{inl, inr}
 use mathlib.Core.Option.{Option, none, some}
 use Prim.Native.Nat.{ℕ, zero, suc, _-_, _≤_, _<_}
 use native.Mathlib.Omega.{arith}
-use borrow.Author.Tests.{leb-true}
+use borrow.Author.Tests.{leb-true, eqb-true}
 use lib.Dec.{T, leb, eqb}
 use lib.IntN.{ℤ}
 use lib.Signed.{leZ}
-use lib.ListN.{length, getD, take, drop, replicate, length-map}
+use lib.ListN.{length, getD, drop, replicate, length-map}
 use lib.Seq.{take-at}
 use Rattle.graph.specs.Lists.{In}
 use Rattle.model.specs.Language.{
@@ -35,7 +35,7 @@ use Rattle.model.proofs.View.{Numbered, Legal as Sound}
 use Rattle.model.proofs.Constants.{legal-basic}
 use Rattle.text.specs.Split.{lines, fields as split}
 use Rattle.flow.specs.Limits.{maxBytes, maxInstructions}
-use Rattle.flow.specs.Read.{Checked, ok, fault, check, after, unless, inRange, isNamed, all, readHead, readLines, lostTarget, readRest, readFlow}
+use Rattle.flow.specs.Read.{Checked, ok, check, after, unless, inRange, isNamed, all, readHead, readLines, lostTarget, readRest, readFlow}
 use Rattle.flow.specs.Code.{rowOf, instructionOf, rowsOf, flowOf}
 use Rattle.flow.specs.Legal.{Legal, head, isWithin}
 use Rattle.flow.specs.Inner.{HeadFits}
@@ -45,7 +45,7 @@ use Rattle.flow.specs.declared.Refusal.the-variants.{TooLong, NoBytes, N
 use Rattle.flow.proofs.RowLaws.{row-back}
 use Rattle.flow.proofs.ClampLaws.{and-split}
 use Rattle.flow.proofs.HeadLaws.{head-read-fits}
-use Rattle.flow.proofs.ReadLaws.{check-ok, after-ok, fault-not-ok, AllFit, lines-fit, at-most-64, none-lost}
+use Rattle.flow.proofs.ReadLaws.{check-ok, after-ok, fault-not-ok, lines-fit, at-most-64, none-lost}
 
 -- ---- what the theory of the model asks of a flow, with its own C1 and C2
 numbered : (flow : Flow) (fs : List Field) → all (inRange (head flow)) fs ≡ true → All (Numbered flow) fs
@@ -95,46 +95,74 @@ unless-ok : {A : Type 0} (o : Option ℕ) (r : ℕ → Refusal) (rest : Checked 
 unless-ok none r rest e = (refl, e)
 unless-ok (some n) r rest e = absurd (fault-not-ok e)
 
-abbrev made : Head → List Instruction → Flow
+-- the flow of line 1 and instructions
+abbrev pub made : Head → List Instruction → Flow
 made h xs = record { tapes = h .tapes; outputs = h .outputs; variables = h .variables; instructions = xs }
 
-rest-legal : (h : Head) → HeadFits h → (ls : List (List ℕ)) (flow : Flow) → readRest h ls ≡ ok flow → Legal flow
-unfolding readRest all
-rest-legal h f ls flow e =
-    let (xs, read, e₁) = after-ok (readLines h 1 ls) judge e in
-    let (any, e₂) = check-ok (leb 1 (length xs)) NoInstruction (unless (lostTarget (length xs) 2 xs) NoSuchTarget (ok (made h xs))) e₁ in
-    let (named, e₃) = unless-ok (lostTarget (length xs) 2 xs) NoSuchTarget (ok (made h xs)) e₂ in
-    let same : made h xs ≡ flow = cc in
-    subst Legal same
-    (record {
-      tapes = f .tapes;
-      outputs = f .outputs;
-      variables = f .variables;
-      size = (leb-true 1 (length xs) any, at-most-64 h ls xs read);
-      ranges = at-number (λ x. all (inRange h) (fields x) ≡ true) refl xs (lines-fit h 1 ls xs read);
-      targets = at-number (λ x. all (isNamed (length xs)) (fields x) ≡ true) refl xs (none-lost (length xs) 2 xs named);
-      constants =
-          let sound = ranges-sound (made h xs) (at-number (λ x. all (inRange h) (fields x) ≡ true) refl xs (lines-fit h 1 ls xs read)) in
-          λ i. within (C1 (made h xs)) (C2 (made h xs)) (fields (instruction (made h xs) i)) (sound .constants-inside i);
-    })
-  where
-    judge : List Instruction → Checked Flow
-    judge xs = check (leb 1 (length xs)) NoInstruction (unless (lostTarget (length xs) 2 xs) NoSuchTarget (ok (made h xs)))
+-- a text that is read, by its checks
+pub record TextRead (text : List ℕ) (flow : Flow) : Type 0 where
+  pub h : Head
+  pub xs : List Instruction
+  pub any : 1 ≤ length text
+  pub last : getD text (length text - 1) 0 ≡ 10
+  pub first : readHead (split (getD (lines text) 0 [])) ≡ ok h
+  pub rest : readLines h 1 (drop 1 (lines text)) ≡ ok xs
+  pub size : 1 ≤ length xs
+  pub named : lostTarget (length xs) 2 xs ≡ none
+  pub whole : made h xs ≡ flow
 
-pub read-legal : (text : List ℕ) (flow : Flow) → readFlow text ≡ ok flow → Legal flow
-unfolding readFlow
-read-legal text flow e =
-    let (short, e₁) = check-ok (leb (length text) maxBytes) TooLong (check (leb 1 (length text)) NoBytes (check last NoLastEnd by-lines)) e in
-    let (any, e₂) = check-ok (leb 1 (length text)) NoBytes (check last NoLastEnd by-lines) e₁ in
-    let (ended, e₃) = check-ok last NoLastEnd by-lines e₂ in
-    let (h, headed, e₄) = after-ok (readHead (split (getD (lines text) 0 []))) (λ h. readRest h (drop 1 (lines text))) e₃ in
-    rest-legal h (head-read-fits (split (getD (lines text) 0 [])) h headed) (drop 1 (lines text)) flow e₄
+pub text-read : (text : List ℕ) (flow : Flow) → readFlow text ≡ ok flow → TextRead text flow
+unfolding readFlow readRest
+text-read text flow e =
+    let (short, e₁) = check-ok (leb (length text) maxBytes) TooLong (check (leb 1 (length text)) NoBytes (check ends NoLastEnd by-lines)) e in
+    let (any, e₂) = check-ok (leb 1 (length text)) NoBytes (check ends NoLastEnd by-lines) e₁ in
+    let (ended, e₃) = check-ok ends NoLastEnd by-lines e₂ in
+    let (h, first, e₄) = after-ok (readHead (split (getD (lines text) 0 []))) (λ h. readRest h (drop 1 (lines text))) e₃ in
+    let (xs, rest, e₅) = after-ok (readLines h 1 (drop 1 (lines text))) (judge h) e₄ in
+    let (size, e₆) = check-ok (leb 1 (length xs)) NoInstruction (unless (lostTarget (length xs) 2 xs) NoSuchTarget (ok (made h xs))) e₅ in
+    let (named, e₇) = unless-ok (lostTarget (length xs) 2 xs) NoSuchTarget (ok (made h xs)) e₆ in
+    record {
+      h = h;
+      xs = xs;
+      any = leb-true 1 (length text) any;
+      last = eqb-true (getD text (length text - 1) 0) 10 ended;
+      first = first;
+      rest = rest;
+      size = leb-true 1 (length xs) size;
+      named = named;
+      whole = cc;
+    }
   where
-    last : Bool
-    last = eqb (getD text (length text - 1) 0) 10
+    ends : Bool
+    ends = eqb (getD text (length text - 1) 0) 10
 
     by-lines : Checked Flow
     by-lines = after (readHead (split (getD (lines text) 0 []))) (λ h. readRest h (drop 1 (lines text)))
+
+    judge : Head → List Instruction → Checked Flow
+    judge h xs = check (leb 1 (length xs)) NoInstruction (unless (lostTarget (length xs) 2 xs) NoSuchTarget (ok (made h xs)))
+
+pub read-legal : (text : List ℕ) (flow : Flow) → readFlow text ≡ ok flow → Legal flow
+unfolding all
+read-legal text flow e =
+    let r = text-read text flow e in
+    let f = head-read-fits (split (getD (lines text) 0 [])) (r .h) (r .first) in
+    subst Legal (r .whole) (legal (r .h) (r .xs) f (r .size) (drop 1 (lines text)) (r .rest) (r .named))
+  where
+    legal : (h : Head) (xs : List Instruction) → HeadFits h → 1 ≤ length xs → (ls : List (List ℕ)) → readLines h 1 ls ≡ ok xs → lostTarget (length xs) 2 xs ≡ none
+        → Legal (made h xs)
+    legal h xs f size ls read named =
+        let ranges = at-number (λ x. all (inRange h) (fields x) ≡ true) refl xs (lines-fit h 1 ls xs read) in
+        let sound = ranges-sound (made h xs) ranges in
+        record {
+          tapes = f .tapes;
+          outputs = f .outputs;
+          variables = f .variables;
+          size = (size, at-most-64 h ls xs read);
+          ranges = ranges;
+          targets = at-number (λ x. all (isNamed (length xs)) (fields x) ≡ true) refl xs (none-lost (length xs) 2 xs named);
+          constants = λ i. within (C1 (made h xs)) (C2 (made h xs)) (fields (instruction (made h xs) i)) (sound .constants-inside i);
+        }
 
 -- ---- the rows give the flow back
 rows-hold : (xs : List Instruction) → map instructionOf (map rowOf xs) ≡ xs

@@ -6,3 +6,6 @@ pub mod HeadLaws
 pub mod ReadLaws
 pub mod FlowLaws
 pub mod LegalLaws
+pub mod WriteLineLaws
+pub mod WriteSizeLaws
+pub mod WriteLaws

@@ -21,6 +21,7 @@ use Rattle.text.specs.Capped.{cap, capped, numberOf}
 use Rattle.text.specs.declared.Number.the-variants.{Value, Bad}
 use Rattle.text.proofs.Cap.{number-value, number-bad}
 use Rattle.text.proofs.Parts.{lines-at, lines-at-end}
+use Rattle.text.proofs.Decimal.{none-no-some}
 use Rattle.flow.specs.Words.{kindOf, constantAt, built}
 use Rattle.flow.specs.Read.{Checked, ok, fault, check, after, inRange, all, joined, numerals, readLine, readLines}
 use Rattle.flow.specs.Code.{rowOf, instructionOf}
@@ -33,9 +34,6 @@ use Rattle.flow.specs.declared.Refusal.{Refusal}
 use Rattle.flow.specs.declared.Refusal.the-variants.{UnknownWord, WrongCount, BadNumber, OutOfRange, OutOfTurn, TooManyLines}
 use Rattle.flow.proofs.RowLaws.{row-back}
 use Rattle.flow.proofs.ClampLaws.{in-range-clamp}
-
-none-no-some : {A : Type 0} {x : A} → none ≡ some x → ⊥
-none-no-some e = let clash : _≡_ {A = ℕ} 0 1 = cc in omega arith
 
 -- ---- the numbers after the word
 abbrev pub cappedAll : Option (List ℤ) → Option (List ℤ)

@@ -1,31 +1,30 @@
 -- What reading gives: the checks that an answer has passed, the answer by rows, and what a legal flow is worth.
-use mathlib.Core.Path.{_≡_, refl, sym, ap, ap₂, _∙_, subst}
-use mathlib.Core.Bool.{Bool, true, false, cond, _&&_, false≢true}
-use mathlib.Core.List.{List, [], _∷_, _++_, map}
+use mathlib.Core.Path.{_≡_, refl, ap, _∙_, subst}
+use mathlib.Core.Bool.{Bool, true, false, cond}
+use mathlib.Core.List.{List, [], _∷_, map}
 use mathlib.Core.Option.{Option, none, some}
 use Prim.Native.Nat.{ℕ, zero, suc, _+_, _-_, _≤_, _<_}
 use native.Mathlib.Omega.{arith}
 use native.Mathlib.Numerals.{add-one}
-use borrow.Author.Tests.{leb-true, eqb-true, ne-eqb, eq-eqb, le-leb, lt-leb}
+use borrow.Author.Tests.{leb-true, eqb-true}
 use lib.Dec.{leb, eqb}
 use lib.IntN.{ℤ}
 use lib.ListN.{length, getD, take, drop, length-map, List·getD-map, drop-of-length-le}
 use lib.Seq.{drop-cons, getD-take, length-take-le}
-use Rattle.model.specs.Language.{Instruction, stop, Flow, Field, fields, instruction}
+use Rattle.model.specs.Language.{Instruction, stop, fields, instruction}
 use Rattle.text.specs.Split.{fields as split}
 use Rattle.text.specs.Number.{natural}
 use Rattle.flow.specs.Limits.{maxInstructions}
 use Rattle.flow.specs.Words.{kindOf, constantAt, built}
-use Rattle.flow.specs.Read.{Checked, ok, fault, check, given, after, unless, inRange, isNamed, all, numerals, headOf, readHead, readLine, readLines, lostTarget, readRest, readFlow}
-use Rattle.flow.specs.Code.{row, rowOf, instructionOf, rowsOf, readingOf}
-use Rattle.flow.specs.Inner.{clamp, kept, answered, finished, HeadFits}
+use Rattle.flow.specs.Read.{Checked, ok, fault, check, given, after, inRange, isNamed, all, numerals, readLine, readLines, lostTarget}
+use Rattle.flow.specs.Code.{row, instructionOf}
+use Rattle.flow.specs.Inner.{clamp}
 use Rattle.flow.specs.declared.Kind.{Kind}
 use Rattle.flow.specs.declared.Refusal.{Refusal}
-use Rattle.flow.specs.declared.Refusal.the-variants.{UnknownWord, WrongCount, BadNumber, OutOfTurn, OutOfRange, TooManyLines, NoInstruction, NoSuchTarget}
+use Rattle.flow.specs.declared.Refusal.the-variants.{UnknownWord, WrongCount, BadNumber, OutOfTurn, OutOfRange, TooManyLines}
 use Rattle.flow.specs.declared.Head.{Head}
 use Rattle.flow.specs.declared.Instruction.{Instruction as Row}
-use Rattle.flow.proofs.RowLaws.{row-back}
-use Rattle.flow.proofs.ClampLaws.{is-named-clamp, clamp-kept}
+use Rattle.flow.proofs.ClampLaws.{is-named-clamp}
 
 -- ---- an answer that is no refusal has passed its checks
 pub fault-not-ok : {A : Type 0} {r : Refusal} {x : A} → fault r ≡ ok x → ⊥
@@ -44,17 +43,36 @@ after-ok (ok x) rest e = (x, refl, e)
 after-ok (fault r) rest e = absurd (fault-not-ok e)
 
 -- ---- lines that are read keep to their ranges, and there are at most 64
-line-fits : (h : Head) (i : ℕ) (fs : List (List ℕ)) (x : Instruction) → readLine h i fs ≡ ok x → all (inRange h) (fields x) ≡ true
+-- a line that is read, by its checks: k is its kind, ns are the numbers after the word
+pub record LineRead (h : Head) (i : ℕ) (fs : List (List ℕ)) (x : Instruction) : Type 0 where
+  pub k : Kind
+  pub ns : List ℤ
+  pub known : kindOf (getD fs 1 []) ≡ some k
+  pub counted : length fs ≡ length (constantAt k) + 2
+  pub number : natural (getD fs 0 []) ≡ some i
+  pub numbers : numerals (constantAt k) (drop 2 fs) ≡ some ns
+  pub fits : all (inRange h) (fields (built k ns)) ≡ true
+  pub whole : built k ns ≡ x
+
+pub line-read : (h : Head) (i : ℕ) (fs : List (List ℕ)) (x : Instruction) → readLine h i fs ≡ ok x → LineRead h i fs x
 unfolding readLine
-line-fits h i fs x e =
+line-read h i fs x e =
     let (k, known, e₁) = given-ok (kindOf (getD fs 1 [])) (UnknownWord (i + 1)) by-kind e in
     let (counted, e₂) = check-ok (eqb (length fs) (length (constantAt k) + 2)) (WrongCount (i + 1)) (by-number k) e₁ in
     let (n, numbered, e₃) = given-ok (natural (getD fs 0 [])) (BadNumber (i + 1)) (by-numbers k) e₂ in
     let (ns, written, e₄) = given-ok (numerals (constantAt k) (drop 2 fs)) (BadNumber (i + 1)) (by-turn k n) e₃ in
     let (turn, e₅) = check-ok (eqb n i) (OutOfTurn (i + 1)) (by-range k ns) e₄ in
     let (fit, e₆) = check-ok (all (inRange h) (fields (built k ns))) (OutOfRange (i + 1)) (ok (built k ns)) e₅ in
-    let same : built k ns ≡ x = cc in
-    subst (λ (y : Instruction). all (inRange h) (fields y) ≡ true) same fit
+    record {
+      k = k;
+      ns = ns;
+      known = known;
+      counted = eqb-true (length fs) (length (constantAt k) + 2) counted;
+      number = numbered ∙ ap some (eqb-true n i turn);
+      numbers = written;
+      fits = fit;
+      whole = cc;
+    }
   where
     by-range : Kind → List ℤ → Checked Instruction
     by-range k ns = check (all (inRange h) (fields (built k ns))) (OutOfRange (i + 1)) (ok (built k ns))
@@ -70,6 +88,11 @@ line-fits h i fs x e =
 
     by-kind : Kind → Checked Instruction
     by-kind k = check (eqb (length fs) (length (constantAt k) + 2)) (WrongCount (i + 1)) (by-number k)
+
+line-fits : (h : Head) (i : ℕ) (fs : List (List ℕ)) (x : Instruction) → readLine h i fs ≡ ok x → all (inRange h) (fields x) ≡ true
+line-fits h i fs x e =
+    let o = line-read h i fs x e in
+    subst (λ (y : Instruction). all (inRange h) (fields y) ≡ true) (o .whole) (o .fits)
 
 -- every instruction of a list keeps to the ranges of line 1
 abbrev pub AllFit : Head → List Instruction → Type 0
@@ -88,7 +111,7 @@ pub record One (h : Head) (i : ℕ) (l : List ℕ) (ls : List (List ℕ)) (xs : 
   pub rest : readLines h (suc i) ls ≡ ok ys
   pub whole : x ∷ ys ≡ xs
 
-one-read : (h : Head) (i : ℕ) (l : List ℕ) (ls : List (List ℕ)) (xs : List Instruction) → readLines h i (l ∷ ls) ≡ ok xs → One h i l ls xs
+pub one-read : (h : Head) (i : ℕ) (l : List ℕ) (ls : List (List ℕ)) (xs : List Instruction) → readLines h i (l ∷ ls) ≡ ok xs → One h i l ls xs
 unfolding readLines
 one-read h i l ls xs e =
     let (few, e₁) = check-ok (leb i maxInstructions) TooManyLines (after (readLine h i (split l)) first) e in
@@ -133,6 +156,11 @@ none-lost n line (x ∷ xs) e j = go (all (isNamed n) (fields x)) refl e j (none
     go true h f zero rest = h
     go true h f (suc j) rest = rest f j
     go false h f j rest = let z : _≡_ {A = ℕ} 0 1 = cc in absurd (omega arith)
+
+pub lost-none : (n line : ℕ) (xs : List Instruction) → ((j : ℕ) → all (isNamed n) (fields (getD xs j stop)) ≡ true) → lostTarget n line xs ≡ none
+unfolding lostTarget
+lost-none n line [] h = refl
+lost-none n line (x ∷ xs) h = rw (h 0, lost-none n (suc line) xs (λ j. h (suc j)))
 
 -- the line of row i, looked at from there on
 module _ (n count : ℕ) (rows : List Row) (long : count ≤ length rows) where

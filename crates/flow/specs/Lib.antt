@@ -5,3 +5,4 @@ pub mod Read
 pub mod Code
 pub mod Inner
 pub mod Legal
+pub mod Write

@@ -2,4 +2,6 @@ pub mod Parts
 pub mod Words
 pub mod Digits
 pub mod Cap
+pub mod Joined
+pub mod Decimal
 pub mod Examples

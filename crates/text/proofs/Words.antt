@@ -1,12 +1,12 @@
 -- Two words compared byte by byte: of different lengths they differ, and of one length they are the same if the bytes from
--- each place on are.
-use mathlib.Core.Path.{_≡_, refl, ap}
-use mathlib.Core.Bool.{Bool, true, false, _&&_}
+-- each place on are. Words that are found the same are equal.
+use mathlib.Core.Path.{_≡_, refl, ap, ap₂}
+use mathlib.Core.Bool.{Bool, true, false, _&&_, false≢true}
 use mathlib.Core.List.{List, [], _∷_}
 use Prim.Native.Nat.{ℕ, suc, _+_, _≤_, _<_}
 use native.Mathlib.Omega.{arith}
 use native.Mathlib.Numerals.{add-one}
-use borrow.Author.Tests.{eq-eqb, ne-eqb}
+use borrow.Author.Tests.{eq-eqb, ne-eqb, eqb-true}
 use lib.Dec.{eqb}
 use lib.ListN.{length, getD, drop, drop-of-length-le}
 use lib.Seq.{drop-cons}
@@ -41,3 +41,14 @@ module _ (a b : List ℕ) (i : ℕ) (level : length a ≡ length b) where
   words-agree h =
       let h′ : length b ≤ i = omega arith in
       rw (drop-of-length-le a h, drop-of-length-le b h′)
+
+pub same-word : (a b : List ℕ) → sameWord a b ≡ true → a ≡ b
+unfolding sameWord
+same-word [] [] e = refl
+same-word [] (y ∷ ys) e = absurd (false≢true e)
+same-word (x ∷ xs) [] e = absurd (false≢true e)
+same-word (x ∷ xs) (y ∷ ys) e = by (eqb x y) refl e (same-word xs ys)
+  where
+    by : (t : Bool) → eqb x y ≡ t → (t && sameWord xs ys) ≡ true → (sameWord xs ys ≡ true → xs ≡ ys) → x ∷ xs ≡ y ∷ ys
+    by true h e same = ap₂ _∷_ (eqb-true x y h) (same e)
+    by false h e same = absurd (false≢true e)

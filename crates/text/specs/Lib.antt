@@ -1,4 +1,5 @@
 pub mod Bytes
 pub mod Split
 pub mod Number
+pub mod Write
 pub mod Capped

@@ -12,25 +12,16 @@ returns : tie.Need-returns
 unfolding numberOf
 returns c = sym (ap answer (natural-empty (now (c .before .before .args .f)) (c .if1 .taken)))
 
-read-digits-requires : tie.Need-read-digits-requires
-read-digits-requires c κs = search needs
-
 returns-2 : tie.Need-returns-2
 returns-2 c =
     let f = now (c .before .before .before .before .args .f) in
     c .read-digits .ensures ∙ sym (ap answer (natural-one f (c .before .if2 .taken)))
-
-shared-slice-read-if3 : tie.Need-shared-slice-read-if3
-shared-slice-read-if3 c = search needs
 
 returns-3 : tie.Need-returns-3
 unfolding numberOf
 returns-3 c =
     let f = now (c .before .before .before .before .before .args .f) in
     sym (ap answer (natural-zero f (omega arith) (c .if3 .taken)))
-
-read-digits-requires-2 : tie.Need-read-digits-requires-2
-read-digits-requires-2 c κs = search needs
 
 returns-4 : tie.Need-returns-4
 returns-4 c =
@@ -42,9 +33,9 @@ read-natural-spec =
     tie.close
     (tie.spec
     returns
-    read-digits-requires
+    (λ c κs. search needs)
     returns-2
-    shared-slice-read-if3
+    (λ c. search needs)
     returns-3
-    read-digits-requires-2
+    (λ c κs. search needs)
     returns-4)

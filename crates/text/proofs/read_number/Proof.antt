@@ -20,12 +20,6 @@ returns c =
     let a = c .before .before .args in
     sym (ap numberOf (numeral-empty (a .minus) (now (a .f)) (c .if1 .taken)))
 
-shared-slice-read-if2 : tie.Need-shared-slice-read-if2
-shared-slice-read-if2 c = search needs
-
-read-natural-requires : tie.Need-read-natural-requires
-read-natural-requires c κs = search needs
-
 returns-2 : tie.Need-returns-2
 returns-2 c =
     let a = c .before .before .before .before .before .args in
@@ -36,18 +30,6 @@ unfolding numberOf
 returns-3 c =
     let a = c .before .before .before .before .before .args in
     sym (ap numberOf (numeral-barred (a .minus) (now (a .f)) (omega arith) (c .before .if2 .left) (not-true _ (c .if3 .taken))))
-
-sub-read-natural : tie.Need-sub-read-natural
-sub-read-natural c = search needs
-
-part-read-natural-start : tie.Need-part-read-natural-start
-part-read-natural-start c = search needs
-
-part-read-natural-end : tie.Need-part-read-natural-end
-part-read-natural-end c = search needs
-
-read-natural-requires-2 : tie.Need-read-natural-requires-2
-read-natural-requires-2 c κs = search needs
 
 -- what stands behind the minus, read as a size; the field is that size below 0
 abbrev size : tie.After-read-natural2 → Option ℕ
@@ -61,9 +43,6 @@ below c =
     let e = c .before .before .before .if2 .left in
     sym (ap numberOf (numeral-minus (a .minus) (now (a .f)) (omega arith) e (not-false _ (c .before .before .if3 .left))))
 
-enum-known-size : tie.Need-enum-known-size
-enum-known-size c = search needs
-
 -- the size that the code holds
 held : (c : tie.After-size) → answer (size (c .before .before)) ≡ Value (c .size .given .0 .0)
 held c = sym (c .before .before .read-natural2 .ensures) ∙ c .size .given .1
@@ -75,9 +54,6 @@ returns-4 c =
 
 sub-t14 : tie.Need-sub-t14
 sub-t14 c = minus-fits (size (c .before .before .before .before)) _ (held (c .before .before))
-
-enum-told : tie.Need-enum-told
-enum-told c = search needs
 
 returns-5 : tie.Need-returns-5
 returns-5 c =
@@ -94,17 +70,17 @@ read-number-spec =
     tie.close
     (tie.spec
     returns
-    shared-slice-read-if2
-    read-natural-requires
+    (λ c. search needs)
+    (λ c κs. search needs)
     returns-2
     returns-3
-    sub-read-natural
-    part-read-natural-start
-    part-read-natural-end
-    read-natural-requires-2
-    enum-known-size
+    (λ c. search needs)
+    (λ c. search needs)
+    (λ c. search needs)
+    (λ c κs. search needs)
+    (λ c. search needs)
     returns-4
     sub-t14
-    enum-told
+    (λ c. search needs)
     returns-5
     returns-6)
