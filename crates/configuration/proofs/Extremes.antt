@@ -16,10 +16,9 @@ use mir.Val.{SFits, toZ, ofZ}
 use mir.Facts.{toZ-ofZ}
 use Rattle.model.specs.Language.{Instruction, read, put, copy, const, less, over, under, nop, stop, constants, allConstants, least, greatest, C1, C2}
 use Rattle.model.proofs.Integers.{zarith}
-use Rattle.flow.specs.Code.{instructionOf, flowOf}
+use Rattle.flow.specs.Code.{rowOf, instructionOf, flowOf}
 use Rattle.flow.specs.declared.Flow.{Flow as Rows}
 use Rattle.flow.specs.declared.Instruction.{Instruction as Row}
-use Rattle.flow.specs.declared.Kind.the-variants.{Read}
 use Rattle.configuration.specs.Inner.{constantIn}
 
 abbrev pub lesser : ℤ → ℤ → ℤ
@@ -97,9 +96,9 @@ pub rest-all : (flow : Rows) → (least (rest flow 0) ≡ C1 (flowOf flow)) × (
 unfolding rest flowOf C1 C2
 rest-all flow = (refl, refl)
 
--- the element that an array of rows gives past its end
+-- what `row_at` gives past the rows
 abbrev blank : Row
-blank = record { kind = Read; a = 0; v = 0; c = pos 0; p = 0; m = 0 }
+blank = rowOf stop
 
 module _ (flow : Rows) (i : ℕ) (h : i < flow .count) (f : List ℤ → ℤ) (g : ℤ → ℤ → ℤ) (fold : Fold f g) where
   abbrev row : Row

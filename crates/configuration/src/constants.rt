@@ -12,6 +12,7 @@ use crate::Range;
 use flow::Flow;
 use flow::Instruction;
 use flow::Kind;
+use flow::lent;
 
 // How far c lies above lo.
 pub fn offset_of(c: i32, lo: i32) -> u32
@@ -125,7 +126,8 @@ pub fn range_of(flow: Flow) -> Range
     let mut i = flow.count;
     while 0 < i {
         i -= 1;
-        let x = flow.instructions[i];
+        let instructions = flow.instructions;
+        let x = lent::row_at(instructions, i);
         let c = constant(x);
         lo = pick(c < lo, c, lo);
         hi = pick(hi < c, c, hi);

@@ -1,17 +1,17 @@
 -- What a row does not keep changes no answer: a number past what a row keeps is past every range, and a number within its range is kept.
 -- So the tests of a clamped instruction are those of the instruction, and one that passes them all is kept whole.
-use mathlib.Core.Path.{_≡_, refl, sym, ap, ap₂, _∙_}
+use mathlib.Core.Path.{_≡_, refl, sym, ap, ap₂}
 use mathlib.Core.Bool.{Bool, true, false, cond, _&&_, false≢true}
 use mathlib.Core.List.{List, [], _∷_, map}
-use Prim.Native.Nat.{ℕ, zero, suc, _≤_, _<_, min}
+use Prim.Native.Nat.{ℕ, _<_}
 use native.Mathlib.Omega.{arith}
 use borrow.Author.Tests.{leb-true, ltb-true, le-ltb, lt-leb}
 use lib.Dec.{leb, ltb}
 use lib.IntN.{ℤ, pos, negsuc}
-use lib.Signed.{leZ, ltZ}
+use lib.Signed.{leZ}
 use Rattle.model.specs.Language.{Instruction, read, put, copy, const, less, over, under, nop, stop, Field, tape, output, variable, target, constant, fields}
 use Rattle.text.proofs.Cap.{test-cut}
-use Rattle.flow.specs.Limits.{leastConstant, greatestConstant, maxTapes, maxOutputs, maxVariables}
+use Rattle.flow.specs.Limits.{leastConstant, greatestConstant}
 use Rattle.flow.specs.Read.{all, inRange, isNamed}
 use Rattle.flow.specs.Inner.{small, bounded, clamp, HeadFits}
 use Rattle.flow.specs.declared.Head.{Head}

@@ -1,7 +1,7 @@
 -- The answer by rows is the definition's: rows past their ranges were turned back, so the rows that are left hold the instructions whole.
 use mathlib.Core.Path.{_≡_, refl, sym, ap, ap₂, _∙_, subst}
 use mathlib.Core.Bool.{Bool, true, false, cond}
-use mathlib.Core.List.{List, [], _∷_, _++_, map, map-map}
+use mathlib.Core.List.{List, [], _∷_, _++_, map}
 use mathlib.Core.Option.{Option, none, some}
 use Prim.Native.Nat.{ℕ, zero, suc, _+_, _-_, _≤_, _<_}
 use native.Mathlib.Omega.{arith}
@@ -13,15 +13,14 @@ use Rattle.model.specs.Language.{Instruction, stop, Flow, fields}
 use Rattle.text.specs.Split.{lines, fields as split, until}
 use Rattle.text.proofs.Parts.{lines-at}
 use Rattle.flow.specs.Limits.{maxBytes}
-use Rattle.flow.specs.Read.{Checked, ok, fault, check, given, after, unless, headOf, readHead, readFlow, inRange, isNamed, all, readLines, lostTarget, readRest}
+use Rattle.flow.specs.Read.{Checked, ok, fault, check, after, unless, readHead, readFlow, isNamed, all, readLines, lostTarget, readRest}
 use Rattle.flow.specs.Code.{rowOf, instructionOf, rowsOf, readingOf}
 use Rattle.flow.specs.Inner.{clamp, kept, judged, finished, HeadFits}
 use Rattle.flow.specs.declared.Refusal.{Refusal}
-use Rattle.flow.specs.declared.Refusal.the-variants.{TooLong, NoBytes, NoLastEnd, UnknownWord, WrongCount, BadNumber, NoInstruction, NoSuchTarget}
+use Rattle.flow.specs.declared.Refusal.the-variants.{TooLong, NoBytes, NoLastEnd, NoInstruction, NoSuchTarget}
 use Rattle.flow.specs.declared.Head.{Head}
 use Rattle.flow.specs.declared.Instruction.{Instruction as Row}
 use Rattle.flow.specs.declared.Answer.the-variants.{Legal}
-use Rattle.flow.specs.declared.Reading.{Reading}
 use Rattle.flow.proofs.RowLaws.{row-back}
 use Rattle.flow.proofs.ClampLaws.{clamp-kept}
 use Rattle.flow.proofs.ReadLaws.{AllFit, lines-fit, at-most-64, lost-clamp, none-lost, fault-not-ok}

@@ -2,12 +2,12 @@
 -- those that the definition makes on the fields of its instruction. By the nine kinds, each by computation.
 use mathlib.Core.Path.{_≡_, refl, sym, _∙_}
 use mathlib.Core.Bool.{Bool, true, false, cond, _&&_}
-use mathlib.Core.Option.{Option, none, some}
-use mathlib.Core.List.{List, [], _∷_}
+use mathlib.Core.Option.{Option, some}
+use mathlib.Core.List.{List, _∷_}
 use Prim.Native.Nat.{ℕ, zero, suc, _<_}
 use native.Mathlib.Omega.{arith}
 use borrow.Author.Tests.{ne-eqb}
-use lib.Dec.{leb, eqb, eqb·suc-zero, eqb·zero-suc, eqb·suc-suc}
+use lib.Dec.{leb, eqb, eqb·suc-zero, eqb·suc-suc}
 use lib.IntN.{ℤ, pos, natAbs}
 use lib.Signed.{leZ}
 use lib.ListN.{getD, replicate}
@@ -16,10 +16,9 @@ use Rattle.flow.specs.Limits.{leastConstant, greatestConstant}
 use Rattle.flow.specs.Words.{constantAt, built}
 use Rattle.flow.specs.Read.{all, inRange, isNamed}
 use Rattle.flow.specs.Code.{rowOf, instructionOf}
-use Rattle.flow.specs.Inner.{small, bounded, clamp, kindIn, rowBy, constantPlace, passes, leads}
+use Rattle.flow.specs.Inner.{small, bounded, clamp, rowBy, constantPlace, passes, leads}
 use Rattle.flow.specs.declared.Kind.{Kind}
 use Rattle.flow.specs.declared.Kind.the-variants.{Read, Put, Copy, Set, Less, Over, Under, Nop, Stop}
-use Rattle.flow.specs.declared.words.Word.{Word}
 use Rattle.flow.specs.declared.Head.{Head}
 use Rattle.flow.specs.declared.Instruction.{Instruction as Row}
 

@@ -1,5 +1,5 @@
 -- How the code holds a flow: a row for each instruction, in the order of the lines, and rows of `stop` up to 64.
-use mathlib.Core.List.{List, [], _∷_, _++_, map}
+use mathlib.Core.List.{[], _++_, map}
 use Prim.Native.Nat.{ℕ, _-_}
 use lib.IntN.{ℤ, pos}
 use lib.ListN.{length, replicate, take}

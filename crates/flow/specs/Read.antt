@@ -14,7 +14,6 @@ use Rattle.text.specs.Number.{numeral, natural}
 use Rattle.text.specs.Bytes.{bytes}
 use Rattle.flow.specs.Limits.{maxBytes, maxInstructions, maxTapes, maxOutputs, maxVariables, leastConstant, greatestConstant}
 use Rattle.flow.specs.Words.{kindOf, constantAt, built}
-use Rattle.flow.specs.declared.Kind.{Kind}
 use Rattle.flow.specs.declared.Head.{Head}
 use Rattle.flow.specs.declared.Refusal.{Refusal}
 use Rattle.flow.specs.declared.Refusal.the-variants.{TooLong, NoBytes, NoLastEnd, UnknownWord, WrongCount, BadNumber, OutOfRange, OutOfTurn, NoSuchTarget, TooManyLines, NoInstruction}

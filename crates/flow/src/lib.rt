@@ -5,6 +5,7 @@
 mod words; // words.rt: the word of a line, and the fields that it asks for
 mod rows; // rows.rt: an instruction from the numbers of its line, and its ranges
 mod lines; // lines.rt: line 1, the instruction lines, the targets
+pub mod lent; // lent.rt: an instruction fetched from a lent slice, and stored there
 
 ghost use mathlib.Core.Path.{_≡_};
 ghost use mathlib.Core.Bool.{_&&_};
@@ -196,6 +197,21 @@ impl Flow {
             outputs: head.outputs,
             variables: head.variables,
             count,
+            instructions,
+        }
+    }
+
+    // The flow with its instructions fetched into an array of its own, for a loop that indexes them.
+    pub fn fetched(self) -> Self
+        ensures { λ r. ⌜ r ≡ self ⌝ }
+    {
+        let rows = self.instructions;
+        let instructions = lent::fetched(rows);
+        Flow {
+            tapes: self.tapes,
+            outputs: self.outputs,
+            variables: self.variables,
+            count: self.count,
             instructions,
         }
     }

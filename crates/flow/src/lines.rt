@@ -14,6 +14,7 @@ use crate::Head;
 use crate::Headed;
 use crate::Instruction;
 use crate::Refusal;
+use crate::lent;
 use crate::rows;
 use crate::words;
 use crate::words::Word;
@@ -97,7 +98,8 @@ pub fn read_lines(text: &[u8], from: usize, head: Head) -> Lines
         if !rows::in_range(row, head) {
             break 'lines Answer::Refused(Refusal::OutOfRange(count + 2));
         }
-        rows[count] = row;
+        let stored = lent::with_row(rows, count, row);
+        rows = stored;
         count += 1;
         at = end + 1;
     };
@@ -120,7 +122,7 @@ pub fn check_targets(rows: [Instruction; Flow::MAX_INSTRUCTIONS], count: usize) 
 {
     let mut i = 0;
     while i < count {
-        let row = rows[i];
+        let row = lent::row_at(rows, i);
         if !rows::is_named(row, count as u8) {
             return Targets::Lost(i + 2);
         }

@@ -1,7 +1,7 @@
 // The interpreter: a run of a flow on tapes in a row, with a step limit and two output rows (document 01, "Runs").
 //
-// `run` gives what `rowRun` of specs/Run.antt says. The loop indexes the flow itself, holds the variables and the tapes' places as arrays,
-// and lends these to functions that each do one thing of a step: nothing large is copied.
+// `run` gives what `rowRun` of specs/Run.antt says. The instructions are fetched once; the loop indexes them itself, holds the variables and
+// the tapes' places as arrays, and lends these to functions that each do one thing of a step: nothing large is copied.
 
 ghost use mathlib.Core.Path.{_≡_};
 ghost use mathlib.Core.Bool.{true, false, cond, _&&_};
@@ -343,8 +343,9 @@ pub fn run(
     let a = lengths[0];
     let b = a + lengths[1];
     let c = b + lengths[2];
+    let held = flow.fetched();
     run_from(
-        flow,
+        held,
         most,
         records,
         [0, a, b],

@@ -6,6 +6,7 @@ use flow::Flow;
 use flow::Instruction;
 use flow::Kind;
 use flow::Refusal;
+use flow::lent;
 use libc::STDOUT_FILENO;
 
 fn print(bytes: &[u8]) {
@@ -111,7 +112,8 @@ fn print_flow(f: Flow) {
     print_head(f.tapes, f.outputs, f.variables);
     for i in 0..Flow::MAX_INSTRUCTIONS {
         if i < f.count {
-            let x = f.instructions[i];
+            let instructions = f.instructions;
+            let x = lent::row_at(instructions, i);
             print_line(i + 1, x);
         }
     }

@@ -17,9 +17,6 @@ use Rattle.interpreter.proofs.put.Tie as tie
 puts-it : (c : tie.Then1) → outputs (c .before .before .before .args .x .kind) ≡ true
 puts-it c = sym (c .before .is-put .ensures) ∙ c .if1 .taken
 
-is-put-requires : tie.Need-is-put-requires
-is-put-requires c κs = search needs
-
 value-requires : tie.Need-value-requires
 value-requires c κs = let a = c .before .before .before in fits-put (a .args .x) (puts-it c) (a .pre .0)
 
@@ -34,12 +31,6 @@ slice-set-from-y c = c .before .before .before .before .pre .1 (puts-it (c .befo
 
 add-result : tie.Need-add-result
 add-result c = omega (arith, c .before .before .before .before .pre .1 (puts-it (c .before)))
-
-same-length : tie.Need-same-length
-same-length c = search needs
-
-same-length-2 : tie.Need-same-length-2
-same-length-2 c = search needs
 
 returns : tie.Need-returns
 returns c = let e = puts-it (c .before) in let a = c .before .before .before .before .args in (
@@ -57,13 +48,13 @@ pub put-spec : {M : Type 1} → statement M
 put-spec =
     tie.close
     (tie.spec
-    is-put-requires
+    (λ c κs. search needs)
     value-requires
     slice-write-numbers
     mul-y
     slice-set-from-y
     add-result
-    same-length
-    same-length-2
+    (λ c. search needs)
+    (λ c. search needs)
     returns
     returns-2)

@@ -24,26 +24,14 @@ names x is fits = let f = fits-kind x is fits in (f .0, f .1 .0)
 named : (a : tie.Start) → let x = a .args .x in ((1 ≤ x .a) × (x .a ≤ 3)) × ((1 ≤ x .v) × (x .v ≤ 4))
 named a = names (a .args .x) (a .pre .0) (a .pre .1 .0)
 
-cast-i : tie.Need-cast-i
-cast-i c = search needs
-
 sub-i : tie.Need-sub-i
 sub-i c = named (c .before) .0 .0
-
-cast-j : tie.Need-cast-j
-cast-j c = search needs
 
 sub-j : tie.Need-sub-j
 sub-j c = named (c .before .before) .1 .0
 
-mul-k : tie.Need-mul-k
-mul-k c = search needs
-
 element-copy-out-k : tie.Need-element-copy-out-k
 element-copy-out-k c = omega (arith, named (c .before .before))
-
-mul-if1 : tie.Need-mul-if1
-mul-if1 c = search needs
 
 element-copy-out-if1 : tie.Need-element-copy-out-if1
 element-copy-out-if1 c = omega (arith, named (c .before .before .before))
@@ -55,9 +43,6 @@ returns c = let a = c .before .before .before .before .before in
 add-at : tie.Need-add-at
 add-at c = let a = c .before .before .before .before .before in omega (arith, a .pre .1 .1 .within (a .args .x .a - 1), c .if1 .left)
 
-mul-at : tie.Need-mul-at
-mul-at c = search needs
-
 element-write-at : tie.Need-element-write-at
 element-write-at c = omega (arith, named (c .before .before .before .before .before))
 
@@ -67,9 +52,6 @@ mul-y c = let a = c .before .before .before .before .before in omega (arith, a .
 shared-slice-copy-out-y : tie.Need-shared-slice-copy-out-y
 shared-slice-copy-out-y c = let a = c .before .before .before .before .before in
     omega (arith, a .pre .1 .1 .within (a .args .x .a - 1), c .if1 .left)
-
-mul-y-2 : tie.Need-mul-y-2
-mul-y-2 c = search needs
 
 element-set-from-y : tie.Need-element-set-from-y
 element-set-from-y c = omega (arith, named (c .before .before .before .before .before .before))
@@ -84,20 +66,20 @@ pub read-record-spec : {M : Type 1} → statement M
 read-record-spec =
     tie.close
     (tie.spec
-    cast-i
+    (λ c. search needs)
     sub-i
-    cast-j
+    (λ c. search needs)
     sub-j
-    mul-k
+    (λ c. search needs)
     element-copy-out-k
-    mul-if1
+    (λ c. search needs)
     element-copy-out-if1
     returns
     add-at
-    mul-at
+    (λ c. search needs)
     element-write-at
     mul-y
     shared-slice-copy-out-y
-    mul-y-2
+    (λ c. search needs)
     element-set-from-y
     returns-2)

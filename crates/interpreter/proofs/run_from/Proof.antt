@@ -73,12 +73,6 @@ mul-x c = omega (arith, c .loop .inv .shows .named, c .before .before .pre .0 .s
 element-copy-out-x : tie.Need-element-copy-out-x Inv-loop μ-loop
 element-copy-out-x c = omega (arith, c .loop .inv .shows .named, c .before .before .pre .0 .size)
 
-is-stop-requires : tie.Need-is-stop-requires Inv-loop μ-loop
-is-stop-requires c κs = search needs
-
-is-full-requires : tie.Need-is-full-requires Inv-loop μ-loop
-is-full-requires c κs = search needs
-
 put-requires : tie.Need-put-requires Inv-loop μ-loop
 put-requires c κs = let e = c .before .before .before in
     let l = e .before .before .before .before .before .before in let a = l .before .before in (
@@ -97,9 +91,6 @@ count-requires c κs = let e = c .before .before .before .before .before .before
       omega (arith, l .loop .inv .shows .named, a .pre .0 .size),
       counts-below _ _ _ _ _ _ _ _ (a .pre .0) (a .pre .1 .1 .1) _ _ (l .loop .inv) past (more (e .before .before)) (a .pre .1 .0),
     )
-
-target-requires : tie.Need-target-requires Inv-loop μ-loop
-target-requires c κs = search needs
 
 add-steps : tie.Need-add-steps Inv-loop μ-loop
 add-steps c = let e = turning c in
@@ -169,12 +160,12 @@ run-from-spec =
     sub-i
     mul-x
     element-copy-out-x
-    is-stop-requires
-    is-full-requires
+    (λ c κs. search needs)
+    (λ c κs. search needs)
     put-requires
     step-requires
     count-requires
-    target-requires
+    (λ c κs. search needs)
     add-steps
     loop-less
     loop-again

@@ -15,23 +15,8 @@ use Rattle.interpreter.proofs.step.Statement.{statement}
 use Rattle.interpreter.specs.Held.{RowFits, stops}
 use Rattle.interpreter.proofs.step.Tie as tie
 
-enum-told : tie.Need-enum-told
-enum-told c = search needs
-
-read-record-requires : tie.Need-read-record-requires
-read-record-requires c κs = search needs
-
-returns : tie.Need-returns
-returns c = search needs
-
-enum-told-2 : tie.Need-enum-told-2
-enum-told-2 c = search needs
-
 returns-2 : tie.Need-returns-2
 returns-2 c = let a = c .before .before in stepped (a .args .x) _ _ _ _ (c .enum-told2 .given .1) refl refl refl (λ n. refl) (λ n. refl) refl
-
-enum-told-3 : tie.Need-enum-told-3
-enum-told-3 c = search needs
 
 value-requires : tie.Need-value-requires
 unfolding RowFits
@@ -48,9 +33,6 @@ returns-3 c = let b = c .before .before .before .before in
     (toZ-ofZ {w = w32} (sfits-of (c .before .before .value .ok)) ∙ c .before .before .value .ensures))
     refl refl (λ n. refl) (λ n. refl) refl
 
-enum-told-4 : tie.Need-enum-told-4
-enum-told-4 c = search needs
-
 assign-requires-2 : tie.Need-assign-requires-2
 unfolding RowFits
 assign-requires-2 c κs = let b = c .before .before in fits-kind _ (b .enum-told4 .given .1) (b .before .before .pre .1 .0) .1 .0
@@ -61,9 +43,6 @@ returns-4 c = let b = c .before .before .before in
     (c .assign2 .ensures ∙ ap (λ (y : ℤ). set (now (b .before .before .args .variables)) (b .before .before .args .x .v - 1) y)
     (toZ-ofZ {w = w32} (search needs)))
     refl refl (λ n. refl) (λ n. refl) refl
-
-enum-told-5 : tie.Need-enum-told-5
-enum-told-5 c = search needs
 
 value-requires-2 : tie.Need-value-requires-2
 unfolding RowFits
@@ -80,9 +59,6 @@ returns-5 c = let b = c .before .before .before .before in
     (toZ-ofZ {w = w32} (sfits-of (c .value3 .ok)) ∙ c .value3 .ensures))
     (λ n. refl) (λ n. refl) refl
 
-enum-told-6 : tie.Need-enum-told-6
-enum-told-6 c = search needs
-
 value-requires-4 : tie.Need-value-requires-4
 unfolding RowFits
 value-requires-4 c κs = let b = c .before in fits-kind _ (b .enum-told6 .given .1) (b .before .before .pre .1 .0) .1 .0
@@ -93,9 +69,6 @@ returns-6 c = let b = c .before .before .before .before in
     (ap₂ ltZ (toZ-ofZ {w = w32} {z = b .before .before .args .x .c} (search needs))
     (toZ-ofZ {w = w32} (sfits-of (c .before .before .value4 .ok)) ∙ c .before .before .value4 .ensures))
     (λ n. refl) (λ n. refl) refl
-
-enum-told-7 : tie.Need-enum-told-7
-enum-told-7 c = search needs
 
 value-requires-5 : tie.Need-value-requires-5
 unfolding RowFits
@@ -108,14 +81,8 @@ returns-7 c = let b = c .before .before .before .before in
     (toZ-ofZ {w = w32} {z = b .before .before .args .x .c} (search needs)))
     (λ n. refl) (λ n. refl) refl
 
-enum-told-8 : tie.Need-enum-told-8
-enum-told-8 c = search needs
-
 returns-8 : tie.Need-returns-8
 returns-8 c = let a = c .before .before in stepped (a .args .x) _ _ _ _ (c .enum-told8 .given .1) refl refl refl (λ n. refl) (λ n. refl) refl
-
-enum-told-9 : tie.Need-enum-told-9
-enum-told-9 c = search needs
 
 returns-9 : tie.Need-returns-9
 returns-9 c = absurd (false≢true (sym (c .before .before .pre .0) ∙ ap stops (c .enum-told9 .given .1)))
@@ -124,29 +91,29 @@ pub step-spec : {M : Type 1} → statement M
 step-spec =
     tie.close
     (tie.spec
-    enum-told
-    read-record-requires
-    returns
-    enum-told-2
+    (λ c. search needs)
+    (λ c κs. search needs)
+    (λ c. search needs)
+    (λ c. search needs)
     returns-2
-    enum-told-3
+    (λ c. search needs)
     value-requires
     assign-requires
     returns-3
-    enum-told-4
+    (λ c. search needs)
     assign-requires-2
     returns-4
-    enum-told-5
+    (λ c. search needs)
     value-requires-2
     value-requires-3
     returns-5
-    enum-told-6
+    (λ c. search needs)
     value-requires-4
     returns-6
-    enum-told-7
+    (λ c. search needs)
     value-requires-5
     returns-7
-    enum-told-8
+    (λ c. search needs)
     returns-8
-    enum-told-9
+    (λ c. search needs)
     returns-9)

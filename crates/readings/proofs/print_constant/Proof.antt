@@ -37,12 +37,6 @@ module _ (z : ℤ) (f : SFits w32 z) (h : ltZ (toZ w32 (ofZ w32 z)) (pos 0) ≡ 
   neg-read : toZ w32 (ofZ w32 (negsuc 0 -ℤ toZ w32 (ofZ w32 z))) ≡ pos (natAbs z - 1)
   neg-read = toZ-ofZ neg-fits ∙ neg .0
 
-slice-aggregate-print : tie.Need-slice-aggregate-print
-slice-aggregate-print c = search needs
-
-print-requires : tie.Need-print-requires
-print-requires c κs = search needs
-
 sub-print-decimal : tie.Need-sub-print-decimal
 sub-print-decimal c = neg-fits (c .before .before .before .args .c) (c .before .before .before .fits .c) (c .before .before .if1 .taken)
 
@@ -58,35 +52,23 @@ add-print-decimal c =
     let f = c .before .before .before .fits .c in
     rw (neg-read z f (c .before .before .if1 .taken)) (record { fits = omega (arith, size-bound z f) })
 
-print-decimal-requires : tie.Need-print-decimal-requires
-print-decimal-requires c κs = search needs
-
-returns : tie.Need-returns
-returns c = search needs
-
 cast-print-number : tie.Need-cast-print-number
 cast-print-number c =
     let z = c .before .args .c in
     let f = c .before .fits .c in
     rw (toZ-ofZ f) (from-zero z (rw (toZ-ofZ f) at (c .if1 .left)), record { fits = omega (arith, size-bound z f) })
 
-print-number-requires : tie.Need-print-number-requires
-print-number-requires c κs = search needs
-
-returns-2 : tie.Need-returns-2
-returns-2 c = search needs
-
 pub print-constant-spec : {M : Type 1} → statement M
 print-constant-spec =
     tie.close
     (tie.spec
-    slice-aggregate-print
-    print-requires
+    (λ c. search needs)
+    (λ c κs. search needs)
     sub-print-decimal
     cast-print-decimal
     add-print-decimal
-    print-decimal-requires
-    returns
+    (λ c κs. search needs)
+    (λ c. search needs)
     cast-print-number
-    print-number-requires
-    returns-2)
+    (λ c κs. search needs)
+    (λ c. search needs))

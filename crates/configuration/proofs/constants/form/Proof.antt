@@ -5,99 +5,45 @@ use borrow.Author.Needs.{needs}
 use Rattle.configuration.proofs.constants.form.Statement.{statement}
 use Rattle.configuration.proofs.constants.form.Tie as tie
 
-enum-told : tie.Need-enum-told
-enum-told c = search needs
-
-read-requires : tie.Need-read-requires
-read-requires c κs = search needs
-
 returns : tie.Need-returns
 returns c =
     let t = c .before .before .before .args in
     formed-by (t .kind) kinds.Read (t .a) (t .v) (t .c) (t .p) (t .m) (c .read .ensures) (c .before .enum-told .given .1)
-
-enum-told-2 : tie.Need-enum-told-2
-enum-told-2 c = search needs
-
-go-requires : tie.Need-go-requires
-go-requires c κs = search needs
 
 returns-2 : tie.Need-returns-2
 returns-2 c =
     let t = c .before .before .before .args in
     formed-by (t .kind) kinds.Put (t .a) (t .v) (t .c) (t .p) (t .m) (c .go .ensures) (c .before .enum-told2 .given .1)
 
-enum-told-3 : tie.Need-enum-told-3
-enum-told-3 c = search needs
-
-assign-requires : tie.Need-assign-requires
-assign-requires c κs = search needs
-
 returns-3 : tie.Need-returns-3
 returns-3 c =
     let t = c .before .before .before .args in
     formed-by (t .kind) kinds.Copy (t .a) (t .v) (t .c) (t .p) (t .m) (c .assign .ensures) (c .before .enum-told3 .given .1)
-
-enum-told-4 : tie.Need-enum-told-4
-enum-told-4 c = search needs
-
-assign-requires-2 : tie.Need-assign-requires-2
-assign-requires-2 c κs = search needs
 
 returns-4 : tie.Need-returns-4
 returns-4 c =
     let t = c .before .before .before .args in
     formed-by (t .kind) kinds.Set (t .a) (t .v) (t .c) (t .p) (t .m) (c .assign2 .ensures) (c .before .enum-told4 .given .1)
 
-enum-told-5 : tie.Need-enum-told-5
-enum-told-5 c = search needs
-
-test-requires : tie.Need-test-requires
-test-requires c κs = search needs
-
 returns-5 : tie.Need-returns-5
 returns-5 c =
     let t = c .before .before .before .args in
     formed-by (t .kind) kinds.Less (t .a) (t .v) (t .c) (t .p) (t .m) (c .test .ensures) (c .before .enum-told5 .given .1)
-
-enum-told-6 : tie.Need-enum-told-6
-enum-told-6 c = search needs
-
-test-requires-2 : tie.Need-test-requires-2
-test-requires-2 c κs = search needs
 
 returns-6 : tie.Need-returns-6
 returns-6 c =
     let t = c .before .before .before .args in
     formed-by (t .kind) kinds.Over (t .a) (t .v) (t .c) (t .p) (t .m) (c .test2 .ensures) (c .before .enum-told6 .given .1)
 
-enum-told-7 : tie.Need-enum-told-7
-enum-told-7 c = search needs
-
-test-requires-3 : tie.Need-test-requires-3
-test-requires-3 c κs = search needs
-
 returns-7 : tie.Need-returns-7
 returns-7 c =
     let t = c .before .before .before .args in
     formed-by (t .kind) kinds.Under (t .a) (t .v) (t .c) (t .p) (t .m) (c .test3 .ensures) (c .before .enum-told7 .given .1)
 
-enum-told-8 : tie.Need-enum-told-8
-enum-told-8 c = search needs
-
-go-requires-2 : tie.Need-go-requires-2
-go-requires-2 c κs = search needs
-
 returns-8 : tie.Need-returns-8
 returns-8 c =
     let t = c .before .before .before .args in
     formed-by (t .kind) kinds.Nop (t .a) (t .v) (t .c) (t .p) (t .m) (c .go2 .ensures) (c .before .enum-told8 .given .1)
-
-enum-told-9 : tie.Need-enum-told-9
-enum-told-9 c = search needs
-
-stop-requires : tie.Need-stop-requires
-stop-requires c κs = search needs
 
 returns-9 : tie.Need-returns-9
 returns-9 c =
@@ -108,30 +54,30 @@ pub form-spec : {M : Type 1} → statement M
 form-spec =
     tie.close
     (tie.spec
-    enum-told
-    read-requires
+    (λ c. search needs)
+    (λ c κs. search needs)
     returns
-    enum-told-2
-    go-requires
+    (λ c. search needs)
+    (λ c κs. search needs)
     returns-2
-    enum-told-3
-    assign-requires
+    (λ c. search needs)
+    (λ c κs. search needs)
     returns-3
-    enum-told-4
-    assign-requires-2
+    (λ c. search needs)
+    (λ c κs. search needs)
     returns-4
-    enum-told-5
-    test-requires
+    (λ c. search needs)
+    (λ c κs. search needs)
     returns-5
-    enum-told-6
-    test-requires-2
+    (λ c. search needs)
+    (λ c κs. search needs)
     returns-6
-    enum-told-7
-    test-requires-3
+    (λ c. search needs)
+    (λ c κs. search needs)
     returns-7
-    enum-told-8
-    go-requires-2
+    (λ c. search needs)
+    (λ c κs. search needs)
     returns-8
-    enum-told-9
-    stop-requires
+    (λ c. search needs)
+    (λ c κs. search needs)
     returns-9)

@@ -2,7 +2,7 @@
 use mathlib.Core.Path.{_≡_, sym, ap, _∙_}
 use mathlib.Core.Bool.{true, false}
 use mathlib.Core.List.{List, []}
-use mathlib.Core.Option.{some, none}
+use mathlib.Core.Option.{some}
 use Prim.Native.Nat.{ℕ}
 use borrow.Author.Needs.{needs}
 use borrow.Author.Tests.{not-true, not-false}
@@ -16,7 +16,6 @@ use Rattle.text.specs.Bytes.{bytes}
 use Rattle.text.specs.Split.{fields, sameWord}
 use Rattle.text.specs.Number.{numeral, natural}
 use Rattle.text.specs.Capped.{capped, numberOf}
-use Rattle.text.specs.declared.Number.the-variants.{Value, Bad}
 use Rattle.flow.specs.Inner.{small}
 use Rattle.flow.proofs.HeadLaws.{head-unknown, head-count, head-tapes, head-outputs, head-variables, head-ranges}
 use Rattle.flow.proofs.LineLaws.{number-natural, number-none, turn-read}

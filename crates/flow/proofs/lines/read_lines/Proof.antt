@@ -91,12 +91,13 @@ module _ (c : tie.After-line Inv-loop μ-loop Inv-lines μ-lines) where
         (inv .1, inv .3),
       )
 
-  more : (x : Instruction) (row : Row) → row ≡ rowOf (clamp x) → readLine head (count + 1) fs ≡ ok x →
-      laws.prepended (take (count + 1) (set rows count row)) (kept (readLines head (count + 1 + 1) (lines (drop (end + 1) text)))) ≡ answer
-  more x row made e =
+  more : (x : Instruction) (row : Row) (stored : List Row) → stored ≡ set rows count row → row ≡ rowOf (clamp x) → readLine head (count + 1) fs ≡ ok x →
+      laws.prepended (take (count + 1) stored) (kept (readLines head (count + 1 + 1) (lines (drop (end + 1) text)))) ≡ answer
+  more x row stored is made e =
       let inv = c .before .before .before .before .lines .inv in
       let l : count < length rows = omega (arith, below .0, inv .2) in
-      laws.lines-more text at head rows count (inv .4) (c .before .before .before .if1 .left) (below .0) end (c .before .end-of .ensures .0)
+      ap (λ (rs : List Row). laws.prepended (take (count + 1) rs) (kept (readLines head (count + 1 + 1) (lines (drop (end + 1) text))))) is
+      ∙ laws.lines-more text at head rows count (inv .4) (c .before .before .before .if1 .left) (below .0) end (c .before .end-of .ensures .0)
       x row l made e
 
 -- ---- its word is known
@@ -253,25 +254,31 @@ loop-again c =
           (toZ w64 (ofZ w64 v)) (omega arith) read,
     )
 
-array-set-from-rows : tie.Need-array-set-from-rows Inv-loop μ-loop Inv-lines μ-lines
-array-set-from-rows c = omega (arith, below (line-at (c .before .before .before .before .before .before)) .0)
+with-row-requires : tie.Need-with-row-requires Inv-loop μ-loop Inv-lines μ-lines
+with-row-requires c κs = omega (arith, below (line-at (c .before .before .before .before .before .before)) .0)
 
 add-at : tie.Need-add-at Inv-loop μ-loop Inv-lines μ-lines
 add-at c =
-    let l = line-at (c .before .before .before .before .before .before) in
+    let l = line-at (c .before .before .before .before .before .before .before) in
     omega (arith, below l .1, l .before .before .before .before .before .before .before .good .0 .1)
+
+lines-less : tie.Need-lines-less Inv-loop μ-loop Inv-lines μ-lines
+lines-less c =
+    let l = line-at (c .before .before .before .before .before .before .before) in
+    omega (arith, below l .1, l .before .before .before .if1 .left, l .before .end-of .ensures .0)
 
 lines-again : tie.Need-lines-again Inv-loop μ-loop Inv-lines μ-lines
 lines-again c =
-    let l = line-at (c .before .before .before .before .before .before) in
-    let t = c .before in
-    let inv = l .before .before .before .before .lines .inv in (
+    let l = line-at (c .before .before .before .before .before .before .before) in
+    let t = c .before .before in
+    let inv = l .before .before .before .before .lines .inv in
+    let kept = c .with-row .ensures in (
       omega (arith, below l .1),
       omega (arith, below l .0),
-      simp length-set (inv .2),
-      laws.stops-less (rowOf stop) (row t) (rows l) (count l) (below l .0) (inv .3),
-      more l (built (found t .kind) (found t .numbers)) (row t) (made t)
-          (laws.line-row (head l) (count l) (fs l) (found t) (in-turn t) (sym (tested t) ∙ not-false _ (c .if5 .left))),
+      ap length kept ∙ simp length-set (inv .2),
+      ap (drop (count l + 1)) kept ∙ laws.stops-less (rowOf stop) (row t) (rows l) (count l) (below l .0) (inv .3),
+      more l (built (found t .kind) (found t .numbers)) (row t) (c .with-row .result) kept (made t)
+          (laws.line-row (head l) (count l) (fs l) (found t) (in-turn t) (sym (tested t) ∙ not-false _ (c .before .if5 .left))),
     )
 
 returns : tie.Need-returns Inv-loop μ-loop Inv-lines μ-lines
@@ -392,11 +399,10 @@ read-lines-spec =
     (λ c κs. search needs)
     (λ c κs. search needs)
     (λ c. omega arith)
-    (λ c. search needs)
-    array-set-from-rows
+    with-row-requires
     (λ c. omega arith)
     add-at
-    (λ c. omega arith)
+    lines-less
     lines-again
     returns
     returns-2

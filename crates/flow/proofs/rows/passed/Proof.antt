@@ -1,5 +1,5 @@
 -- `flow::rows::passed` meets its contract: each arm is the clause of its kind.
-use mathlib.Core.Path.{_≡_, sym, ap}
+use mathlib.Core.Path.{sym, ap}
 use borrow.Author.Needs.{needs}
 use Rattle.flow.specs.Inner.{passes}
 use Rattle.flow.specs.declared.Kind.{Kind}

@@ -1,5 +1,5 @@
 -- `flow::rows::row` meets its contract: each arm is the clause of its kind.
-use mathlib.Core.Path.{_≡_, sym, ap, _∙_}
+use mathlib.Core.Path.{sym, ap, _∙_}
 use borrow.Author.Needs.{needs}
 use mir.Facts.{toZ-ofZ}
 use Rattle.flow.specs.Inner.{rowBy}
