@@ -66,10 +66,10 @@ pub fn zero8(row: &mut [u8])
 pub fn zero32(row: &mut [u32])
     ensures { λ _. ⌜ now (row .exit) ≡ replicate (length (now (row .entry))) 0 ⌝ }
 {
-    let mut i = 0;
-    while i < row.len() {
-        row[i] = 0;
-        i += 1;
+    let mut k = 0;
+    while k < row.len() {
+        row[k] = 0;
+        k += 1;
     }
 }
 

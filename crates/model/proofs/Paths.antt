@@ -1,9 +1,9 @@
 -- The configurations of a flow as a graph of the crate `graph`, each edge costing 1: its paths are the paths here, so what a search of that graph
 -- finds is what the definitions ask for.
-use mathlib.Core.Path.{_≡_, refl, sym, ap, _∙_, subst}
+use mathlib.Core.Path.{_≡_, refl, sym, _∙_, subst}
 use mathlib.Core.List.{List}
 use mathlib.Core.Option.{Option, some}
-use Prim.Native.Nat.{ℕ, suc, _+_, _≤_}
+use Prim.Native.Nat.{ℕ}
 use native.Mathlib.Numerals.{add-one}
 use lib.IntN.{ℤ}
 use Rattle.graph.specs.Graph.{Graph, Path, here, onward, Reached, ExitDistance, NoExit}

@@ -1,5 +1,5 @@
 -- The pattern of the variables (document 01, "Distances and configurations"). C1 and C2 are called lo and hi here and passed along.
-use mathlib.Core.Bool.{Bool, true, false, not, cond, _&&_, _||_}
+use mathlib.Core.Bool.{Bool, false, not, cond, _&&_, _||_}
 use mathlib.Core.List.{List, [], _∷_, map}
 use Prim.Native.Nat.{ℕ, suc}
 use lib.IntN.{ℤ}

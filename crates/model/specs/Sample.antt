@@ -1,6 +1,6 @@
 -- A sample for an exit (document 01, "Distances and configurations").
 use mathlib.Core.Path.{_≡_}
-use mathlib.Core.List.{List, [], _∷_}
+use mathlib.Core.List.{List, []}
 use Prim.Native.Nat.{ℕ}
 use lib.IntN.{ℤ, pos, _+ℤ_, negℤ}
 use lib.Signed.{leZ}

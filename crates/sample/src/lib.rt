@@ -97,24 +97,12 @@ fn quiet(walk: Walk, op: Op, lo: i32) -> Walk
     }
 }
 
-fn is_read(action: Action) -> bool
-    ensures { λ r. ⌜ r ≡ isRead action ⌝ }
-{
-    match action {
-        Action::Read => true,
-        Action::Assign => false,
-        Action::Test => false,
-        Action::Go => false,
-        Action::Stop => false,
-    }
-}
-
 // Whether a step to the place word reads a record: a read that finds none ends its tape.
 fn takes_record(op: Op, next: Words) -> bool
     ensures { λ r. ⌜ r ≡ takesRecord op next ⌝ }
 {
     let action = op.action;
-    if is_read(action) {
+    if table::is_read(action) {
         let ended = place::ended(next.place, op.tape);
         return !ended;
     }
@@ -145,7 +133,7 @@ fn last_read(row: &mut [i32], walk: Walk, op: Op, exit: bool, lo: i32, hi: i32)
     ensures { λ _. ⌜ now (row .exit) ≡ lastRow lo hi op exit walk (now (row .entry)) ⌝ }
 {
     let action = op.action;
-    if is_read(action) {
+    if table::is_read(action) {
         if exit {
             let mut wish = walk.values;
             let a = op.tape as usize;
@@ -164,12 +152,6 @@ fn index(place: u64) -> usize
     place::at(place) - 1
 }
 
-fn wide(x: u32) -> usize
-    ensures { λ r. ⌜ r ≡ x ⌝ }
-{
-    x as usize
-}
-
 // The words at place t of a way.
 fn words_on(places: &[u64], patterns: &[u64], path: &[u32], t: usize) -> Words
     requires { ⌜ t < length (now path) ⌝ }
@@ -178,7 +160,7 @@ fn words_on(places: &[u64], patterns: &[u64], path: &[u32], t: usize) -> Words
     ensures { λ r. ⌜ r ≡ words (placeOn (now (places .entry)) (now (path .entry)) t)
         (getD (now (patterns .entry)) (getD (now (path .entry)) t 0) 0) ⌝ }
 {
-    let k = wide(path[t]);
+    let k = table::wide(path[t]);
     Words {
         place: places[k],
         pattern: patterns[k],
@@ -199,9 +181,9 @@ fn sizes_of(
 {
     let counts = table::reads(path, places, ops, steps);
     let all = table::counted(counts, op, exit);
-    let a = wide(all[0]);
-    let b = wide(all[1]);
-    let c = wide(all[2]);
+    let a = table::wide(all[0]);
+    let b = table::wide(all[1]);
+    let c = table::wide(all[2]);
     [a, b, c]
 }
 

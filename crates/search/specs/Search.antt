@@ -1,14 +1,11 @@
 -- What a search promises: it stores all configurations that a flow reaches, or says that they outnumber the cells.
-use mathlib.Core.Path.{_≡_}
 use mathlib.Core.List.{List}
-use Prim.Native.Nat.{ℕ, suc, _<_, _≤_}
+use Prim.Native.Nat.{ℕ, _≤_}
 use lib.IntN.{ℤ}
-use lib.ListN.{length, getD}
 use Rattle.graph.specs.Lists.{MoreThan}
 use Rattle.graph.specs.Graph.{Reached}
 use Rattle.graph.proofs.Search.{Searching}
-use Rattle.model.specs.Language.{Flow, instruction}
-use Rattle.configuration.specs.Op.{opOf, readOp}
+use Rattle.model.specs.Language.{Flow}
 use Rattle.configuration.specs.declared.Op.{Op}
 use Rattle.configuration.proofs.Steps.{Fit}
 use Rattle.cells.specs.Cells.{Rows}

@@ -126,7 +126,8 @@ pub fn nearest(
     Found::Nothing
 }
 
-fn is_read(action: Action) -> bool
+// Whether an action is a read.
+pub fn is_read(action: Action) -> bool
     ensures { λ r. ⌜ r ≡ isRead action ⌝ }
 {
     match action {
@@ -159,7 +160,8 @@ pub fn counted(counts: [u32; TAPES], op: Op, taken: bool) -> [u32; TAPES]
     more
 }
 
-fn wide(x: u32) -> usize
+// The number of a cell, as a cell holds it.
+pub fn wide(x: u32) -> usize
     ensures { λ r. ⌜ r ≡ x ⌝ }
 {
     x as usize

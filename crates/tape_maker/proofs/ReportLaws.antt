@@ -1,8 +1,7 @@
 -- The report by the code's steps: what is searched for a legal flow, what a finished table gives, and what a refusal says.
 use mathlib.Core.Path.{_≡_, refl, sym, ap, _∙_, subst, subst⁻¹}
-use mathlib.Core.Bool.{Bool, false}
 use mathlib.Core.List.{List, map}
-use Prim.Native.Nat.{ℕ, suc, _≤_, _<_}
+use Prim.Native.Nat.{ℕ, suc, _≤_}
 use native.Mathlib.Omega.{arith}
 use lib.IntN.{ℤ}
 use lib.ListN.{length, getD, take, replicate, length-map}
@@ -11,27 +10,23 @@ use Rattle.graph.specs.Lists.{MoreThan}
 use Rattle.graph.specs.Graph.{Reached}
 use Rattle.graph.proofs.Counting.{listed}
 use Rattle.model.specs.Language.{Instruction, stop, Flow, instruction, hasExits, C1, C2}
-use Rattle.model.specs.Machine.{Exit, p-exit, m-exit}
+use Rattle.model.specs.Machine.{p-exit, m-exit}
 use Rattle.model.specs.Distance.{Says}
-use Rattle.flow.specs.Limits.{maxInstructions}
 use Rattle.flow.specs.Read.{Checked, ok, fault, readFlow}
 use Rattle.flow.specs.Code.{instructionOf}
-use Rattle.flow.specs.Legal.{Legal}
 use Rattle.flow.specs.declared.Refusal.{Refusal}
 use Rattle.flow.specs.declared.Refusal.the-variants.{TooFewCells}
 use Rattle.flow.specs.declared.Instruction.{Instruction as Row}
-use Rattle.configuration.specs.Op.{opOf, widthOf}
+use Rattle.configuration.specs.Op.{opOf}
 use Rattle.configuration.specs.Pattern.{Width}
-use Rattle.configuration.specs.Step.{startOf}
 use Rattle.configuration.specs.declared.Op.{Op}
 use Rattle.configuration.specs.declared.Words.{Words}
 use Rattle.configuration.specs.Place.{configurationOf}
 use Rattle.configuration.proofs.Steps.{Fit}
 use Rattle.configuration.proofs.Fitting.{fit-legal}
-use Rattle.cells.specs.Cells.{Rows, rows, cellsOf, Zeroed, mostCells}
-use Rattle.cells.specs.Entries.{Entries, entries}
-use Rattle.table.specs.Table.{wordGraph, wordsAt, Complete}
-use Rattle.table.specs.Passes.{blank, Prepared, Walkable, Column, ExitsOf}
+use Rattle.cells.specs.Cells.{Rows, rows, cellsOf, Zeroed}
+use Rattle.table.specs.Table.{wordGraph, wordsAt}
+use Rattle.table.specs.Passes.{Prepared, Walkable, ExitsOf}
 use Rattle.table.specs.declared.Distances.{Distances}
 use Rattle.table.proofs.Words.{outnumbered, complete-census, length-complete}
 use Rattle.table.proofs.Standing.{complete-walkable}
@@ -39,10 +34,10 @@ use Rattle.table.proofs.Says.{column-says}
 use Rattle.search.specs.Growth.{entriesOf}
 use Rattle.search.specs.Search.{Subject, Finished, SearchedIs}
 use Rattle.search.specs.declared.Searched as Ends
-use Rattle.tape_maker.specs.Report.{Outnumber, Count, Reported, refusal, Refuses, Searched, ReportOf}
-use Rattle.tape_maker.specs.Inner.{held, Each, GivenIs, Plan}
+use Rattle.tape_maker.specs.Report.{Outnumber, Reported, refusal, Searched, ReportOf}
+use Rattle.tape_maker.specs.Inner.{held, GivenIs, Plan}
 use Rattle.tape_maker.specs.declared.ReportEnd.{ReportEnd}
-use Rattle.tape_maker.specs.declared.ReportEnd.the-variants.{Given, Refused}
+use Rattle.tape_maker.specs.declared.ReportEnd.the-variants.{Given}
 use Rattle.tape_maker.specs.declared.ReportAnswer.{ReportAnswer}
 
 module _ {flow : Flow} {held-rows : List Row} {count : ℕ} {ops : List Op} {w : ℕ} {start : Words} (plan : Plan flow held-rows count ops w start) where

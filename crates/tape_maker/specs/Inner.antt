@@ -1,8 +1,9 @@
 -- Definitions that only inner contracts cite.
 use mathlib.Core.Path.{_≡_}
 use mathlib.Core.Bool.{Bool, true, false}
-use mathlib.Core.List.{List, map}
+use mathlib.Core.List.{List, _∷_, map}
 use Prim.Native.Nat.{ℕ, _<_, _≤_}
+use lib.IntN.{ℤ}
 use lib.ListN.{length, getD, take}
 use Rattle.model.specs.Language.{Instruction, stop, Flow, hasExits, C1, C2}
 use Rattle.flow.specs.Limits.{maxInstructions}
@@ -15,8 +16,12 @@ use Rattle.configuration.specs.Op.{opOf, widthOf}
 use Rattle.configuration.specs.Step.{startOf}
 use Rattle.configuration.specs.declared.Op.{Op}
 use Rattle.configuration.specs.declared.Words.{Words}
-use Rattle.table.specs.Passes.{blank}
+use Rattle.cells.specs.Entries.{Entries}
+use Rattle.cells.specs.Way.{Parents}
+use Rattle.table.specs.Table.{Complete}
+use Rattle.table.specs.Passes.{blank, Walkable}
 use Rattle.table.specs.declared.Distances.{Distances}
+use Rattle.tape_maker.specs.Sample.{Wanted, Held}
 use Rattle.tape_maker.specs.declared.ReportEnd.the-variants.{Given}
 use Rattle.tape_maker.specs.declared.ReportAnswer.{ReportAnswer}
 
@@ -62,3 +67,27 @@ pub record Plan (flow : Flow) (rows : List Row) (count : ℕ) (ops : List Op) (w
   pub width : w ≡ widthOf (C1 flow) (C2 flow)
   pub prepared : Each (opOf (C1 flow)) blank rows count ops
   pub begins : start ≡ startOf (C1 flow)
+
+-- ---- the sample
+-- whether instruction number i of those that the first rows hold has two exits
+abbrev pub exitsAt : List Row → (count i : ℕ) → Bool
+exitsAt rows count i = hasExits (getD (stop ∷ map instructionOf (take count rows)) i stop)
+
+-- an exit that exists is wanted; the flow is planned for the search, with C1 and C2
+pub record Asked (flow : Flow) (ops : List Op) (w : ℕ) (start : Words) (lo hi : ℤ) (i : ℕ) : Type 0 where
+  pub rows : List Row
+  pub count : ℕ
+  pub plan : Plan flow rows count ops w start
+  pub low : lo ≡ C1 flow
+  pub high : hi ≡ C2 flow
+  pub wanted : Wanted flow i
+
+-- the same, with a finished table of n entries, which the search found room for, and a row for the way to an entry
+pub record Finished (flow : Flow) (cells : ℕ) (e : Entries) (n room : ℕ) (ops : List Op) (w : ℕ) (lo hi : ℤ) (i : ℕ) : Type 0 where
+  pub start : Words
+  pub asked : Asked flow ops w start lo hi i
+  pub held : Held flow cells
+  pub complete : Complete (C1 flow) w flow e n
+  pub parents : Parents (e .distances) (e .parents) n
+  pub walkable : Walkable (e .places) (e .patterns) (e .distances) n
+  pub path-room : n ≤ room

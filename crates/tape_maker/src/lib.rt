@@ -2,13 +2,19 @@
 // its caller; specs/ has one definition for each.
 mod running; // running.rt: the request for a run
 mod reporting; // reporting.rt: the report of a flow that was read
+mod sampling; // sampling.rt: the sample for one exit
 
+ghost use lib.ListN.{length};
 ghost use Rattle.cells.specs.Cells.{rows};
+ghost use Rattle.tapes.specs.Part.{spanOf, IsPart};
 ghost use Rattle.tape_maker.specs.Run.{requested, RunIs};
 ghost use Rattle.tape_maker.specs.Report.{ReportIs};
+ghost use Rattle.tape_maker.specs.Sample.{SampleIs};
 use flow::Answer;
 use flow::Flow;
 use flow::Refusal;
+
+const TAPES: usize = Flow::MAX_TAPES as usize;
 
 // How a run ends, or why it was not made.
 pub enum RunEnd {
@@ -101,4 +107,69 @@ pub fn report(
             flow,
         ),
     }
+}
+
+// Whether a sample was taken, or no tapes take the exit.
+pub enum SampleEnd {
+    Taken,
+    Never,
+    Refused(Refusal),
+}
+
+// What a wish for a sample comes to: the exit's distance, and the lengths of the tapes in the record row.
+pub struct SampleAnswer {
+    pub end: SampleEnd,
+    pub distance: usize,
+    pub lengths: [usize; TAPES],
+}
+
+// Writes a sample for an exit of an instruction, p if `exit`, into the record row, which has to be as long as the exit's distance. The work
+// rows are lent as for a report.
+pub fn sample(
+    text: &[u8],
+    instruction: usize,
+    exit: bool,
+    places: &mut [u64],
+    patterns: &mut [u64],
+    distances: &mut [u32],
+    parents: &mut [u32],
+    heads: &mut [u32],
+    nexts: &mut [u32],
+    fans: &mut [u8],
+    row: &mut [i32],
+) -> SampleAnswer
+    ensures { λ r. ⌜ SampleIs (now (text .entry)) instruction exit
+        (rows (now (places .entry)) (now (patterns .entry)) (now (distances .entry)) (now (parents .entry)) (now (heads .entry)) (now (nexts .entry)) (now (fans .entry)))
+        (rows (now (places .exit)) (now (patterns .exit)) (now (distances .exit)) (now (parents .exit)) (now (heads .exit)) (now (nexts .exit)) (now (fans .exit)))
+        (now (row .entry)) (now (row .exit)) r ⌝ }
+{
+    let answer = sampling::answered(
+        text,
+        instruction,
+        exit,
+        places,
+        patterns,
+        distances,
+        parents,
+        heads,
+        nexts,
+        fans,
+        row,
+    );
+    let end = answer.end;
+    match end {
+        SampleEnd::Taken => answer,
+        SampleEnd::Never => answer,
+        SampleEnd::Refused(_) => {
+            cells::clear(places, patterns, distances, parents, heads, nexts, fans);
+            answer
+        }
+    }
+}
+
+// The part of the record row that holds the records of one tape, counted from 1, by the lengths that came with the sample.
+pub fn tape<'a>(row: &'a [i32], lengths: &[usize], number: usize) -> &'a [i32]
+    ensures { λ r. ⌜ IsPart (spanOf (now (lengths .entry)) number (length (now (row .entry)))) (now (row .entry)) (row .entry .ptr) (now r) (r .ptr) ⌝ }
+{
+    tapes::tape_records(row, lengths, number)
 }

@@ -19,6 +19,7 @@ use flow::Flow;
 use flow::Instruction;
 use flow::Kind;
 use flow::Refusal;
+use flow::lent;
 use table::Distances;
 
 // The answer for a refusal.
@@ -53,7 +54,7 @@ fn two_exits(kind: Kind) -> bool
 }
 
 // Whether an instruction has two exits.
-fn has_two(x: Instruction) -> bool
+pub fn has_two(x: Instruction) -> bool
     ensures { λ r. ⌜ r ≡ exitsIn x ⌝ }
 {
     let kind = x.kind;
@@ -71,7 +72,7 @@ fn twos(
     let mut two = [false; Flow::MAX_INSTRUCTIONS];
     let mut i = 0;
     while i < count {
-        let x = instructions[i];
+        let x = lent::row_at(instructions, i);
         two[i] = has_two(x);
         i += 1;
     }
@@ -90,7 +91,7 @@ pub fn prepare(
     let mut ops = [Op::stop(); Flow::MAX_INSTRUCTIONS];
     let mut i = 0;
     while i < count {
-        let x = instructions[i];
+        let x = lent::row_at(instructions, i);
         ops[i] = constants::prepare(x, lo);
         i += 1;
     }

@@ -4,12 +4,14 @@ use mathlib.Core.List.{List, [], _∷_, _++_}
 use Prim.Native.Nat.{ℕ, zero, suc, min, _+_, _-_, _*_, _≤_, _<_}
 use native.Mathlib.Omega.{arith}
 use native.Mathlib.Numerals.{add-one}
+use native.Mathlib.Decide.{decLt, decLe}
 use borrow.Author.Tests.{lt-ltb, le-ltb, le-leb, lt-leb}
 use lib.IntN.{ℤ}
 use lib.ListN.{length, getD, take, drop}
 use lib.Seq.{drop-drop, take-suc, take-take, take-all}
 use Rattle.model.specs.Tapes.{tapesIn, total}
-use Rattle.tapes.specs.Part.{Span, nothing, spanOf, IsPart}
+use Rattle.tapes.specs.Part.{nothing, spanOf, IsPart}
+use Rattle.tapes.specs.declared.Span.{Span}
 
 total-append : (xs ys : List ℕ) → total (xs ++ ys) ≡ total xs + total ys
 unfolding total
@@ -68,18 +70,26 @@ module _ (ns : List ℕ) (a cells : ℕ) where
       pub span-inside : total (take (a - 1) ns) + getD ns (a - 1) 0 ≤ cells
       span-inside = omega (arith, total-le ns (a - 1 + 1), total-take ns (a - 1) (omega arith))
 
-pub is-nothing : (s : Span) (row : List ℤ) (home place : ℕ × ℕ) → s ≡ nothing → place .0 ≡ home .0 → place .1 ≡ 0 * 4 + home .1
-    → IsPart s row home [] place
-is-nothing s row home place e b o =
-    subst (λ (q : Span). IsPart q row home [] place) (sym e) (record { records = refl; block = b; offset = o })
+-- every part lies in its row
+pub span-fits : (ns : List ℕ) (a cells : ℕ) → spanOf ns a cells .start + spanOf ns a cells .count ≤ cells
+span-fits ns a cells = by (decLt 0 a) (decLe a (length ns)) (decLe (total ns) cells)
+  where
+    empty : spanOf ns a cells ≡ nothing → spanOf ns a cells .start + spanOf ns a cells .count ≤ cells
+    empty e = omega (arith, ap (λ (s : Span). s .start + s .count) e)
 
-pub is-there : (s : Span) (row : List ℤ) (home place : ℕ × ℕ) (a n a′ n′ : ℕ) → s ≡ record { start = a; count = n } → a′ ≡ a → n′ ≡ n
-    → place .0 ≡ home .0 → place .1 ≡ a′ * 4 + home .1 → IsPart s row home (take n′ (drop a′ row)) place
-is-there s row home place a n a′ n′ e p q b o = subst (λ (t : Span). IsPart t row home (take n′ (drop a′ row)) place) (sym e) (record {
-  records = ap (λ (i : ℕ). take i (drop a′ row)) q ∙ ap (λ (i : ℕ). take n (drop i row)) p;
-  block = b;
-  offset = omega arith;
-})
+    by : Dec (0 < a) → Dec (a ≤ length ns) → Dec (total ns ≤ cells) → spanOf ns a cells .start + spanOf ns a cells .count ≤ cells
+    by (yes h) (yes k) (yes e) = omega (arith, ap (λ (s : Span). s .start + s .count) (span-there ns a cells h k e), span-inside ns a cells h k e)
+    by (yes h) (yes k) (no e) = empty (span-long ns a cells h k (omega arith))
+    by (yes h) (no k) e = empty (span-past ns a cells h (omega arith))
+    by (no h) k e = empty (span-zero ns a cells (omega arith))
+
+-- the part that lies at a span
+pub is-part : (s : Span) (row : List ℤ) (home place : ℕ × ℕ) (r : Span) → r ≡ s → place .0 ≡ home .0 → place .1 ≡ r .start * 4 + home .1
+    → IsPart s row home (take (r .start + r .count - r .start) (drop (r .start) row)) place
+is-part s row home place r e b o =
+    let n : r .start + r .count - r .start ≡ r .count = omega arith in
+    subst (λ (t : Span). IsPart t row home (take (r .start + r .count - r .start) (drop (r .start) row)) place) e
+    (record { records = ap (λ (i : ℕ). take i (drop (r .start) row)) n; block = b; offset = o })
 
 -- ---- and it holds that tape of the row
 tape-at : (ns : List ℕ) (row : List ℤ) (i : ℕ) → i < length ns → getD (tapesIn ns row) i [] ≡ take (getD ns i 0) (drop (total (take i ns)) row)

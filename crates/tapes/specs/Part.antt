@@ -7,11 +7,7 @@ use lib.Dec.{ltb, leb}
 use lib.IntN.{ℤ}
 use lib.ListN.{length, getD, take, drop}
 use Rattle.model.specs.Tapes.{total}
-
--- where a part of a row starts, and how many records it holds
-pub record Span : Type 0 where
-  pub start : ℕ
-  pub count : ℕ
+use Rattle.tapes.specs.declared.Span.{Span}
 
 abbrev pub nothing : Span
 nothing = record { start = 0; count = 0 }

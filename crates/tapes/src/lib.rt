@@ -33,6 +33,12 @@ pub struct Walk {
     pub starts: [usize; 3],
 }
 
+// A part of a row: the cell where it starts, and how many records it holds.
+pub struct Span {
+    pub start: usize,
+    pub count: usize,
+}
+
 // The start: nothing is written, every variable is 0, and the part of each tape has as many cells as its size.
 pub fn first_walk(sizes: [usize; 3]) -> Walk
     requires { ⌜ total sizes ≤ mostRecords ⌝ }
@@ -150,24 +156,34 @@ fn capped(lengths: &[usize], n: usize, cap: usize) -> usize
     sum
 }
 
-// The part of the row that holds the records of one tape, counted from 1.
-pub fn tape_records<'a>(row: &'a [i32], lengths: &[usize], tape: usize) -> &'a [i32]
-    ensures { λ r. ⌜ IsPart (spanOf (now (lengths .entry)) tape (length (now (row .entry)))) (now (row .entry)) (row .entry .ptr) (now r) (r .ptr) ⌝ }
+// Where the part of the row that holds the records of one tape, counted from 1, starts, and how many it holds.
+pub fn span_of(row: &[i32], lengths: &[usize], tape: usize) -> Span
+    ensures { λ r. ⌜ r ≡ spanOf (now (lengths .entry)) tape (length (now (row .entry))) ⌝ }
 {
+    let nothing = Span { start: 0, count: 0 };
     if tape == 0 {
-        return &row[0..0];
+        return nothing;
     }
     if lengths.len() < tape {
-        return &row[0..0];
+        return nothing;
     }
     let cap = row.len() + 1;
     let all = capped(lengths, lengths.len(), cap);
     if row.len() < all {
-        return &row[0..0];
+        return nothing;
     }
     let a = tape - 1;
-    let n = lengths[a];
-    let s = capped(lengths, a, cap);
-    let e = s + n;
+    let count = lengths[a];
+    let start = capped(lengths, a, cap);
+    Span { start, count }
+}
+
+// The part of the row that holds the records of one tape, counted from 1.
+pub fn tape_records<'a>(row: &'a [i32], lengths: &[usize], tape: usize) -> &'a [i32]
+    ensures { λ r. ⌜ IsPart (spanOf (now (lengths .entry)) tape (length (now (row .entry)))) (now (row .entry)) (row .entry .ptr) (now r) (r .ptr) ⌝ }
+{
+    let span = span_of(row, lengths, tape);
+    let s = span.start;
+    let e = s + span.count;
     &row[s..e]
 }

@@ -7,12 +7,6 @@ use borrow.Author.Needs.{needs}
 use Rattle.cells.proofs.begin.Statement.{statement}
 use Rattle.cells.proofs.begin.Tie as tie
 
-zero8-requires : tie.Need-zero8-requires
-zero8-requires c κs = search needs
-
-zero32-requires : tie.Need-zero32-requires
-zero32-requires c κs = search needs
-
 add-requires : tie.Need-add-requires
 add-requires c κs =
     let heads = c .before .before .before .before .before .before .before .before in
@@ -21,27 +15,6 @@ add-requires c κs =
     rows (now (a .args .places)) (now (a .args .patterns)) (now (a .args .distances)) (now (a .args .parents)) (now (a .args .heads))
     (now (a .args .nexts)) (now (a .args .fans)) in
     (filled-none r _ _ (a .pre .0) (a .pre .1) (heads .zero32 .ensures), a .pre .0)
-
-same-length : tie.Need-same-length
-same-length c = search needs
-
-same-length-2 : tie.Need-same-length-2
-same-length-2 c = search needs
-
-same-length-3 : tie.Need-same-length-3
-same-length-3 c = search needs
-
-same-length-4 : tie.Need-same-length-4
-same-length-4 c = search needs
-
-same-length-5 : tie.Need-same-length-5
-same-length-5 c = search needs
-
-same-length-6 : tie.Need-same-length-6
-same-length-6 c = search needs
-
-same-length-7 : tie.Need-same-length-7
-same-length-7 c = search needs
 
 returns : tie.Need-returns
 returns c =
@@ -59,14 +32,14 @@ pub begin-spec : {M : Type 1} → statement M
 begin-spec =
     tie.close
     (tie.spec
-    zero8-requires
-    zero32-requires
+    (λ c κs. search needs)
+    (λ c κs. search needs)
     add-requires
-    same-length
-    same-length-2
-    same-length-3
-    same-length-4
-    same-length-5
-    same-length-6
-    same-length-7
+    (λ c. search needs)
+    (λ c. search needs)
+    (λ c. search needs)
+    (λ c. search needs)
+    (λ c. search needs)
+    (λ c. search needs)
+    (λ c. search needs)
     returns)

@@ -14,24 +14,6 @@ Inv-loop distances parents path₀ n at i₀ d₀ path i d = Tracing distances p
 abbrev μ-loop : tie.MeasureT-loop
 μ-loop distances parents path₀ n at i₀ d₀ path i d = d
 
-mul-wide : tie.Need-mul-wide Inv-loop μ-loop
-mul-wide c = search needs
-
-shared-slice-read-wide : tie.Need-shared-slice-read-wide Inv-loop μ-loop
-shared-slice-read-wide c = search needs
-
-wide-requires : tie.Need-wide-requires Inv-loop μ-loop
-wide-requires c κs = search needs
-
-cast-path : tie.Need-cast-path Inv-loop μ-loop
-cast-path c = search needs
-
-mul-path : tie.Need-mul-path Inv-loop μ-loop
-mul-path c = search needs
-
-slice-write-path : tie.Need-slice-write-path Inv-loop μ-loop
-slice-write-path c = search needs
-
 loop-holds : tie.Need-loop-holds Inv-loop μ-loop
 loop-holds c =
     let a = c .before .before .before .before .before in
@@ -48,28 +30,16 @@ shared-slice-read-wide-2 c =
     let a = c .before .before .before .before .before .before .before .before in
     omega (arith, entry-below (a .pre .0) (c .before .before .loop .inv), a .pre .0 .parent-room)
 
-wide-requires-2 : tie.Need-wide-requires-2 Inv-loop μ-loop
-wide-requires-2 c κs = search needs
-
-sub-d : tie.Need-sub-d Inv-loop μ-loop
-sub-d c = search needs
-
 cast-path-2 : tie.Need-cast-path-2 Inv-loop μ-loop
 cast-path-2 c =
     let l = c .before .before .before in
     let ps = l .before .before .before .before .before .before .pre .0 in
     omega (arith, parent-below ps (l .loop .inv) (c .before .before .loop-test .taken) _ (c .wide2 .ensures), ps .few)
 
-mul-path-2 : tie.Need-mul-path-2 Inv-loop μ-loop
-mul-path-2 c = search needs
-
 slice-write-path-2 : tie.Need-slice-write-path-2 Inv-loop μ-loop
 slice-write-path-2 c =
     let i = c .before .before .before .loop .inv in
     omega (arith, i .below, i .room, i .size)
-
-loop-less : tie.Need-loop-less Inv-loop μ-loop
-loop-less c = search needs
 
 loop-again : tie.Need-loop-again Inv-loop μ-loop
 loop-again c =
@@ -90,21 +60,21 @@ trace-spec =
     (tie.spec
     Inv-loop
     μ-loop
-    mul-wide
-    shared-slice-read-wide
-    wide-requires
-    cast-path
-    mul-path
-    slice-write-path
+    (λ c. search needs)
+    (λ c. search needs)
+    (λ c κs. search needs)
+    (λ c. search needs)
+    (λ c. search needs)
+    (λ c. search needs)
     loop-holds
     mul-wide-2
     shared-slice-read-wide-2
-    wide-requires-2
-    sub-d
+    (λ c κs. search needs)
+    (λ c. search needs)
     cast-path-2
-    mul-path-2
+    (λ c. search needs)
     slice-write-path-2
-    loop-less
+    (λ c. search needs)
     loop-again
     same-length
     returns)

@@ -9,25 +9,13 @@ use Rattle.cells.proofs.zero32.Statement.{statement}
 use Rattle.cells.proofs.zero32.Tie as tie
 
 abbrev Inv-loop : tie.InvT-loop
-Inv-loop row₀ i₀ row i = ZeroedTo row₀ row i
+Inv-loop row₀ k₀ row k = ZeroedTo row₀ row k
 
 abbrev μ-loop : tie.MeasureT-loop
-μ-loop row₀ i₀ row i = length row₀ - i
+μ-loop row₀ k₀ row k = length row₀ - k
 
 loop-holds : tie.Need-loop-holds Inv-loop μ-loop
 loop-holds c = record { within = omega arith; size = refl; is = refl }
-
-mul-row : tie.Need-mul-row Inv-loop μ-loop
-mul-row c = search needs
-
-slice-write-row : tie.Need-slice-write-row Inv-loop μ-loop
-slice-write-row c = search needs
-
-add-i : tie.Need-add-i Inv-loop μ-loop
-add-i c = search needs
-
-loop-less : tie.Need-loop-less Inv-loop μ-loop
-loop-less c = search needs
 
 loop-again : tie.Need-loop-again Inv-loop μ-loop
 loop-again c = zeroed-more _ _ _ (c .before .loop .inv) (omega arith)
@@ -45,10 +33,10 @@ zero32-spec =
     Inv-loop
     μ-loop
     loop-holds
-    mul-row
-    slice-write-row
-    add-i
-    loop-less
+    (λ c. search needs)
+    (λ c. search needs)
+    (λ c. search needs)
+    (λ c. search needs)
     loop-again
     same-length
     returns)

@@ -1,9 +1,9 @@
 -- `write_sample` meets its contract.
-use mathlib.Core.Path.{_≡_, sym, ap, _∙_, subst}
-use Prim.Native.Nat.{ℕ, _-_, _≤_}
+use mathlib.Core.Path.{_≡_, sym, subst}
+use Prim.Native.Nat.{_-_}
 use native.Mathlib.Omega.{arith}
 use denote.Ref.{now}
-use lib.ListN.{length, getD}
+use lib.ListN.{length}
 use mir.Facts.{toZ-ofZ}
 use Rattle.table.specs.Passes.{Stands}
 use Rattle.sample.specs.Sampling.{Course, course, Leads, Roomy, Following}

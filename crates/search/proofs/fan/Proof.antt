@@ -9,9 +9,6 @@ use Rattle.search.proofs.Fanning as fanning
 use Rattle.search.proofs.fan.Statement.{statement}
 use Rattle.search.proofs.fan.Tie as tie
 
-opens-requires : tie.Need-opens-requires
-opens-requires c κs = search needs
-
 returns : tie.Need-returns
 unfolding GrownIs
 returns c =
@@ -20,36 +17,6 @@ returns c =
       fanning.fan-shut (start .pre .1 .1) (fanning.shut-by _ _ _ (asked .opens .ensures) (c .if1 .taken)) (start .pre .0 .filled),
       start .pre .0 .marked,
     )
-
-take-requires : tie.Need-take-requires
-take-requires c κs = search needs
-
-visit-requires : tie.Need-visit-requires
-visit-requires c κs = search needs
-
-enum-known-s : tie.Need-enum-known-s
-enum-known-s c = search needs
-
-enum-told : tie.Need-enum-told
-enum-told c = search needs
-
-same-length : tie.Need-same-length
-same-length c = search needs
-
-same-length-2 : tie.Need-same-length-2
-same-length-2 c = search needs
-
-same-length-3 : tie.Need-same-length-3
-same-length-3 c = search needs
-
-same-length-4 : tie.Need-same-length-4
-same-length-4 c = search needs
-
-same-length-5 : tie.Need-same-length-5
-same-length-5 c = search needs
-
-same-length-6 : tie.Need-same-length-6
-same-length-6 c = search needs
 
 returns-2 : tie.Need-returns-2
 unfolding GrownIs
@@ -83,27 +50,6 @@ marked-requires c κs =
     let met = visited-at _ _ _ _ _ _ _ _ _ _ (visited .visit .ensures) (told .s .given .1) in
     (omega (arith, met .below, met .filled .index .within, start .pre .0 .room), omega (arith, fanning.fan-lane (start .pre .1 .1) open-still))
 
-same-length-7 : tie.Need-same-length-7
-same-length-7 c = search needs
-
-same-length-8 : tie.Need-same-length-8
-same-length-8 c = search needs
-
-same-length-9 : tie.Need-same-length-9
-same-length-9 c = search needs
-
-same-length-10 : tie.Need-same-length-10
-same-length-10 c = search needs
-
-same-length-11 : tie.Need-same-length-11
-same-length-11 c = search needs
-
-same-length-12 : tie.Need-same-length-12
-same-length-12 c = search needs
-
-same-length-13 : tie.Need-same-length-13
-same-length-13 c = search needs
-
 returns-3 : tie.Need-returns-3
 unfolding GrownIs
 returns-3 c =
@@ -135,33 +81,6 @@ members-requires c κs =
         (start .pre .1 .1 .width, fanning.first-own (start .pre .1 .1) open-still _ (took .take .ensures)),
       ),
     )
-
-enum-known-g : tie.Need-enum-known-g
-enum-known-g c = search needs
-
-enum-told-2 : tie.Need-enum-told-2
-enum-told-2 c = search needs
-
-same-length-14 : tie.Need-same-length-14
-same-length-14 c = search needs
-
-same-length-15 : tie.Need-same-length-15
-same-length-15 c = search needs
-
-same-length-16 : tie.Need-same-length-16
-same-length-16 c = search needs
-
-same-length-17 : tie.Need-same-length-17
-same-length-17 c = search needs
-
-same-length-18 : tie.Need-same-length-18
-same-length-18 c = search needs
-
-same-length-19 : tie.Need-same-length-19
-same-length-19 c = search needs
-
-same-length-20 : tie.Need-same-length-20
-same-length-20 c = search needs
 
 returns-4 : tie.Need-returns-4
 unfolding GrownIs
@@ -241,12 +160,6 @@ same-length-25 c =
     let visited = visited .before .before .before .before .before .before .before .before .before .before .before in
     went .members .kept .1 .1 .1 .1 .0 ∙ visited .visit .kept .1 .1 .1 .1 .0
 
-same-length-26 : tie.Need-same-length-26
-same-length-26 c = search needs
-
-same-length-27 : tie.Need-same-length-27
-same-length-27 c = search needs
-
 returns-5 : tie.Need-returns-5
 unfolding GrownIs
 returns-5 c =
@@ -269,39 +182,39 @@ pub fan-spec : {M : Type 1} → statement M
 fan-spec =
     tie.close
     (tie.spec
-    opens-requires
+    (λ c κs. search needs)
     returns
-    take-requires
-    visit-requires
-    enum-known-s
-    enum-told
-    same-length
-    same-length-2
-    same-length-3
-    same-length-4
-    same-length-5
-    same-length-6
+    (λ c κs. search needs)
+    (λ c κs. search needs)
+    (λ c. search needs)
+    (λ c. search needs)
+    (λ c. search needs)
+    (λ c. search needs)
+    (λ c. search needs)
+    (λ c. search needs)
+    (λ c. search needs)
+    (λ c. search needs)
     returns-2
     cast-marked
     marked-requires
-    same-length-7
-    same-length-8
-    same-length-9
-    same-length-10
-    same-length-11
-    same-length-12
-    same-length-13
+    (λ c. search needs)
+    (λ c. search needs)
+    (λ c. search needs)
+    (λ c. search needs)
+    (λ c. search needs)
+    (λ c. search needs)
+    (λ c. search needs)
     returns-3
     members-requires
-    enum-known-g
-    enum-told-2
-    same-length-14
-    same-length-15
-    same-length-16
-    same-length-17
-    same-length-18
-    same-length-19
-    same-length-20
+    (λ c. search needs)
+    (λ c. search needs)
+    (λ c. search needs)
+    (λ c. search needs)
+    (λ c. search needs)
+    (λ c. search needs)
+    (λ c. search needs)
+    (λ c. search needs)
+    (λ c. search needs)
     returns-4
     cast-mark
     mark-requires
@@ -310,8 +223,8 @@ fan-spec =
     same-length-23
     same-length-24
     same-length-25
-    same-length-26
-    same-length-27
+    (λ c. search needs)
+    (λ c. search needs)
     returns-5)
 
 -- tmp

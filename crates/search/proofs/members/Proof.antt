@@ -25,9 +25,6 @@ abbrev μ-loop : tie.MeasureT-loop
 μ-loop places₀ patterns₀ distances₀ parents₀ heads₀ nexts₀ count cells d k w v first last n₀ y₀ places patterns distances parents heads nexts n y =
     w + 25 - y
 
-add-last : tie.Need-add-last Inv-loop μ-loop
-add-last c = search needs
-
 loop-holds : tie.Need-loop-holds Inv-loop μ-loop
 loop-holds c =
     let start = c .before .before .before .before .before .before in (
@@ -46,30 +43,6 @@ visit-requires c κs =
     let at = c .before .before .before .before .before .before .before .before in
     let start = at .before .before .before .before .before .before .before in
     (at .loop .inv .0 .filled, omega (arith, kept-count (at .loop .inv .0), start .pre .1 .0))
-
-enum-known-s : tie.Need-enum-known-s Inv-loop μ-loop
-enum-known-s c = search needs
-
-enum-told : tie.Need-enum-told Inv-loop μ-loop
-enum-told c = search needs
-
-same-length : tie.Need-same-length Inv-loop μ-loop
-same-length c = search needs
-
-same-length-2 : tie.Need-same-length-2 Inv-loop μ-loop
-same-length-2 c = search needs
-
-same-length-3 : tie.Need-same-length-3 Inv-loop μ-loop
-same-length-3 c = search needs
-
-same-length-4 : tie.Need-same-length-4 Inv-loop μ-loop
-same-length-4 c = search needs
-
-same-length-5 : tie.Need-same-length-5 Inv-loop μ-loop
-same-length-5 c = search needs
-
-same-length-6 : tie.Need-same-length-6 Inv-loop μ-loop
-same-length-6 c = search needs
 
 returns : tie.Need-returns Inv-loop μ-loop
 unfolding MembersIs
@@ -116,24 +89,6 @@ loop-again c =
       },
     )
 
-same-length-7 : tie.Need-same-length-7 Inv-loop μ-loop
-same-length-7 c = search needs
-
-same-length-8 : tie.Need-same-length-8 Inv-loop μ-loop
-same-length-8 c = search needs
-
-same-length-9 : tie.Need-same-length-9 Inv-loop μ-loop
-same-length-9 c = search needs
-
-same-length-10 : tie.Need-same-length-10 Inv-loop μ-loop
-same-length-10 c = search needs
-
-same-length-11 : tie.Need-same-length-11 Inv-loop μ-loop
-same-length-11 c = search needs
-
-same-length-12 : tie.Need-same-length-12 Inv-loop μ-loop
-same-length-12 c = search needs
-
 returns-2 : tie.Need-returns-2 Inv-loop μ-loop
 unfolding MembersIs
 returns-2 c = members-all _ _ _ _ (c .before .loop .inv .0) (omega (arith, c .loop-test .left))
@@ -144,28 +99,28 @@ members-spec =
     (tie.spec
     Inv-loop
     μ-loop
-    add-last
+    (λ c. search needs)
     loop-holds
     fan-at-requires
     visit-requires
-    enum-known-s
-    enum-told
-    same-length
-    same-length-2
-    same-length-3
-    same-length-4
-    same-length-5
-    same-length-6
+    (λ c. search needs)
+    (λ c. search needs)
+    (λ c. search needs)
+    (λ c. search needs)
+    (λ c. search needs)
+    (λ c. search needs)
+    (λ c. search needs)
+    (λ c. search needs)
     returns
     add-y
     loop-less
     loop-again
-    same-length-7
-    same-length-8
-    same-length-9
-    same-length-10
-    same-length-11
-    same-length-12
+    (λ c. search needs)
+    (λ c. search needs)
+    (λ c. search needs)
+    (λ c. search needs)
+    (λ c. search needs)
+    (λ c. search needs)
     returns-2)
 
 -- tmp

@@ -6,37 +6,19 @@ use Rattle.search.proofs.Fanning.{opens-by}
 use Rattle.search.proofs.opens.Statement.{statement}
 use Rattle.search.proofs.opens.Tie as tie
 
-enum-told : tie.Need-enum-told
-enum-told c = search needs
-
-ended-requires : tie.Need-ended-requires
-ended-requires c κs = search needs
-
 returns : tie.Need-returns
 returns c =
     let told = c .before in
     opens-by _ _ _ _ (told .enum-told .given .1) (ap not (c .ended .ensures))
 
-enum-told-2 : tie.Need-enum-told-2
-enum-told-2 c = search needs
-
 returns-2 : tie.Need-returns-2
 returns-2 c = opens-by _ _ _ _ (c .enum-told2 .given .1) refl
-
-enum-told-3 : tie.Need-enum-told-3
-enum-told-3 c = search needs
 
 returns-3 : tie.Need-returns-3
 returns-3 c = opens-by _ _ _ _ (c .enum-told3 .given .1) refl
 
-enum-told-4 : tie.Need-enum-told-4
-enum-told-4 c = search needs
-
 returns-4 : tie.Need-returns-4
 returns-4 c = opens-by _ _ _ _ (c .enum-told4 .given .1) refl
-
-enum-told-5 : tie.Need-enum-told-5
-enum-told-5 c = search needs
 
 returns-5 : tie.Need-returns-5
 returns-5 c = opens-by _ _ _ _ (c .enum-told5 .given .1) refl
@@ -45,14 +27,14 @@ pub opens-spec : {M : Type 1} → statement M
 opens-spec =
     tie.close
     (tie.spec
-    enum-told
-    ended-requires
+    (λ c. search needs)
+    (λ c κs. search needs)
     returns
-    enum-told-2
+    (λ c. search needs)
     returns-2
-    enum-told-3
+    (λ c. search needs)
     returns-3
-    enum-told-4
+    (λ c. search needs)
     returns-4
-    enum-told-5
+    (λ c. search needs)
     returns-5)

@@ -45,21 +45,6 @@ slice-read-at c =
     let i = x .ready .filled .index in
     search needs
 
-at-requires : tie.Need-at-requires Inv-loop μ-loop
-at-requires c κs = search needs
-
-add-i : tie.Need-add-i Inv-loop μ-loop
-add-i c = search needs
-
-stop-requires : tie.Need-stop-requires Inv-loop μ-loop
-stop-requires c κs = search needs
-
-mul-op : tie.Need-mul-op Inv-loop μ-loop
-mul-op c = search needs
-
-array-copy-out-op : tie.Need-array-copy-out-op Inv-loop μ-loop
-array-copy-out-op c = search needs
-
 expand-requires : tie.Need-expand-requires Inv-loop μ-loop
 expand-requires c κs =
     let joined = c .before .before .before .before .before .before .before in
@@ -73,33 +58,6 @@ expand-requires c κs =
     let pick = (picked (s .prepared) _ _ (ap (λ (n : ℕ). (n + 127) % 128) (placed .at .ensures .0))
     (either (λ t. inl (t .0 .taken, t .2)) (λ t. inr (t .0 .left, t .1 ∙ stopped .stop .ensures)) (joined .if1 .came))) in
     (x .ready, (inside .loop-test .taken, (entry-fine (s .fit) x (inside .loop-test .taken) pick, entry-near (s .fit) x (inside .loop-test .taken))))
-
-enum-known-g : tie.Need-enum-known-g Inv-loop μ-loop
-enum-known-g c = search needs
-
-enum-told : tie.Need-enum-told Inv-loop μ-loop
-enum-told c = search needs
-
-same-length : tie.Need-same-length Inv-loop μ-loop
-same-length c = search needs
-
-same-length-2 : tie.Need-same-length-2 Inv-loop μ-loop
-same-length-2 c = search needs
-
-same-length-3 : tie.Need-same-length-3 Inv-loop μ-loop
-same-length-3 c = search needs
-
-same-length-4 : tie.Need-same-length-4 Inv-loop μ-loop
-same-length-4 c = search needs
-
-same-length-5 : tie.Need-same-length-5 Inv-loop μ-loop
-same-length-5 c = search needs
-
-same-length-6 : tie.Need-same-length-6 Inv-loop μ-loop
-same-length-6 c = search needs
-
-same-length-7 : tie.Need-same-length-7 Inv-loop μ-loop
-same-length-7 c = search needs
 
 returns : tie.Need-returns Inv-loop μ-loop
 unfolding SearchedIs
@@ -168,27 +126,6 @@ loop-again c =
       },
     )
 
-same-length-8 : tie.Need-same-length-8 Inv-loop μ-loop
-same-length-8 c = search needs
-
-same-length-9 : tie.Need-same-length-9 Inv-loop μ-loop
-same-length-9 c = search needs
-
-same-length-10 : tie.Need-same-length-10 Inv-loop μ-loop
-same-length-10 c = search needs
-
-same-length-11 : tie.Need-same-length-11 Inv-loop μ-loop
-same-length-11 c = search needs
-
-same-length-12 : tie.Need-same-length-12 Inv-loop μ-loop
-same-length-12 c = search needs
-
-same-length-13 : tie.Need-same-length-13 Inv-loop μ-loop
-same-length-13 c = search needs
-
-same-length-14 : tie.Need-same-length-14 Inv-loop μ-loop
-same-length-14 c = search needs
-
 returns-2 : tie.Need-returns-2 Inv-loop μ-loop
 unfolding SearchedIs
 returns-2 c = λ s begun. finished (s .fit) (c .before .loop .inv .0 s begun) (c .loop-test .left)
@@ -202,32 +139,32 @@ walk-spec =
     loop-holds
     mul-at
     slice-read-at
-    at-requires
-    add-i
-    stop-requires
-    mul-op
-    array-copy-out-op
+    (λ c κs. search needs)
+    (λ c. search needs)
+    (λ c κs. search needs)
+    (λ c. search needs)
+    (λ c. search needs)
     expand-requires
-    enum-known-g
-    enum-told
-    same-length
-    same-length-2
-    same-length-3
-    same-length-4
-    same-length-5
-    same-length-6
-    same-length-7
+    (λ c. search needs)
+    (λ c. search needs)
+    (λ c. search needs)
+    (λ c. search needs)
+    (λ c. search needs)
+    (λ c. search needs)
+    (λ c. search needs)
+    (λ c. search needs)
+    (λ c. search needs)
     returns
     add-k
     loop-less
     loop-again
-    same-length-8
-    same-length-9
-    same-length-10
-    same-length-11
-    same-length-12
-    same-length-13
-    same-length-14
+    (λ c. search needs)
+    (λ c. search needs)
+    (λ c. search needs)
+    (λ c. search needs)
+    (λ c. search needs)
+    (λ c. search needs)
+    (λ c. search needs)
     returns-2)
 
 -- tmp

@@ -18,77 +18,14 @@ abbrev μ-loop : tie.MeasureT-loop
 loop-holds : tie.Need-loop-holds Inv-loop μ-loop
 loop-holds c = (search needs, filling-start, filling-start)
 
-mul-t17 : tie.Need-mul-t17 Inv-loop μ-loop
-mul-t17 c = search needs
-
-shared-slice-read-t19 : tie.Need-shared-slice-read-t19 Inv-loop μ-loop
-shared-slice-read-t19 c = search needs
-
-mul-t20 : tie.Need-mul-t20 Inv-loop μ-loop
-mul-t20 c = search needs
-
-shared-slice-read-t22 : tie.Need-shared-slice-read-t22 Inv-loop μ-loop
-shared-slice-read-t22 c = search needs
-
 index-requires : tie.Need-index-requires Inv-loop μ-loop
 index-requires c κs = c .before .before .before .before .before .before .before .pre .1 .stands _ (c .before .before .loop-test .taken)
-
-mul-op : tie.Need-mul-op Inv-loop μ-loop
-mul-op c = search needs
-
-array-copy-out-op : tie.Need-array-copy-out-op Inv-loop μ-loop
-array-copy-out-op c = search needs
-
-exits-of-requires : tie.Need-exits-of-requires Inv-loop μ-loop
-exits-of-requires c κs = search needs
-
-mul-d : tie.Need-mul-d Inv-loop μ-loop
-mul-d c = search needs
-
-shared-slice-read-d : tie.Need-shared-slice-read-d Inv-loop μ-loop
-shared-slice-read-d c = search needs
 
 add-d : tie.Need-add-d Inv-loop μ-loop
 add-d c =
     let l = c .before .before .before .before .before .before in
     let walk = c .before .before .before .before .before .before .before .before .before .before .before .pre .1 in
     omega (arith, walk .few, walk .near (l .before .loop .k) (l .loop-test .taken), l .loop-test .taken)
-
-mul-kept : tie.Need-mul-kept Inv-loop μ-loop
-mul-kept c = search needs
-
-array-read-kept : tie.Need-array-read-kept Inv-loop μ-loop
-array-read-kept c = search needs
-
-kept-requires : tie.Need-kept-requires Inv-loop μ-loop
-kept-requires c κs = search needs
-
-mul-p : tie.Need-mul-p Inv-loop μ-loop
-mul-p c = search needs
-
-array-write-p : tie.Need-array-write-p Inv-loop μ-loop
-array-write-p c = search needs
-
-mul-kept-2 : tie.Need-mul-kept-2 Inv-loop μ-loop
-mul-kept-2 c = search needs
-
-array-read-kept-2 : tie.Need-array-read-kept-2 Inv-loop μ-loop
-array-read-kept-2 c = search needs
-
-kept-requires-2 : tie.Need-kept-requires-2 Inv-loop μ-loop
-kept-requires-2 c κs = search needs
-
-mul-m : tie.Need-mul-m Inv-loop μ-loop
-mul-m c = search needs
-
-array-write-m : tie.Need-array-write-m Inv-loop μ-loop
-array-write-m c = search needs
-
-add-k : tie.Need-add-k Inv-loop μ-loop
-add-k c = search needs
-
-loop-less : tie.Need-loop-less Inv-loop μ-loop
-loop-less c = search needs
 
 loop-again : tie.Need-loop-again Inv-loop μ-loop
 loop-again c =
@@ -113,28 +50,28 @@ exits-spec =
     Inv-loop
     μ-loop
     loop-holds
-    mul-t17
-    shared-slice-read-t19
-    mul-t20
-    shared-slice-read-t22
+    (λ c. search needs)
+    (λ c. search needs)
+    (λ c. search needs)
+    (λ c. search needs)
     index-requires
-    mul-op
-    array-copy-out-op
-    exits-of-requires
-    mul-d
-    shared-slice-read-d
+    (λ c. search needs)
+    (λ c. search needs)
+    (λ c κs. search needs)
+    (λ c. search needs)
+    (λ c. search needs)
     add-d
-    mul-kept
-    array-read-kept
-    kept-requires
-    mul-p
-    array-write-p
-    mul-kept-2
-    array-read-kept-2
-    kept-requires-2
-    mul-m
-    array-write-m
-    add-k
-    loop-less
+    (λ c. search needs)
+    (λ c. search needs)
+    (λ c κs. search needs)
+    (λ c. search needs)
+    (λ c. search needs)
+    (λ c. search needs)
+    (λ c. search needs)
+    (λ c κs. search needs)
+    (λ c. search needs)
+    (λ c. search needs)
+    (λ c. search needs)
+    (λ c. search needs)
     loop-again
     returns)

@@ -34,23 +34,11 @@ index-requires c κs =
     let p = c .before .before .before .before .before .pre in
     subst Stands (sym (c .place-on .ensures)) (p .stands _ (omega (arith, c .before .loop-test .taken)))
 
-mul-op : tie.Need-mul-op Inv-loop μ-loop
-mul-op c = search needs
-
-array-copy-out-op : tie.Need-array-copy-out-op Inv-loop μ-loop
-array-copy-out-op c = search needs
-
-add-t : tie.Need-add-t Inv-loop μ-loop
-add-t c = search needs
-
 place-on-requires-2 : tie.Need-place-on-requires-2 Inv-loop μ-loop
 place-on-requires-2 c κs =
     let p = c .before .before .before .before .before .before .before .pre in
     let l = c .before .before .before .loop-test .taken in
     (omega (arith, p .room, l), p .entry _ (omega (arith, l)))
-
-ended-requires : tie.Need-ended-requires Inv-loop μ-loop
-ended-requires c κs = search needs
 
 counted-requires : tie.Need-counted-requires Inv-loop μ-loop
 counted-requires c κs a =
@@ -58,9 +46,6 @@ counted-requires c κs a =
     let s = c .before .before .before .before .before .before .before .before .before in
     let e = ap (λ (r : List ℕ). getD r a 0) (l .inv .1) in
     omega (arith, e, reads-few (s .args .t3) (now (s .args .places)) (now (s .args .path)) (l .t) a, l .inv .0, s .pre .few)
-
-loop-less : tie.Need-loop-less Inv-loop μ-loop
-loop-less c = search needs
 
 loop-again : tie.Need-loop-again Inv-loop μ-loop
 loop-again c =
@@ -90,12 +75,12 @@ reads-spec =
     loop-holds
     place-on-requires
     index-requires
-    mul-op
-    array-copy-out-op
-    add-t
+    (λ c. search needs)
+    (λ c. search needs)
+    (λ c. search needs)
     place-on-requires-2
-    ended-requires
+    (λ c κs. search needs)
     counted-requires
-    loop-less
+    (λ c. search needs)
     loop-again
     returns)

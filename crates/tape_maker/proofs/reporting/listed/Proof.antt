@@ -1,9 +1,7 @@
 -- `tape_maker::reporting::listed` meets its contract.
 use borrow.Author.Needs.{needs}
-use mathlib.Core.Path.{_≡_, sym, ap, _∙_}
+use mathlib.Core.Path.{_∙_}
 use native.Mathlib.Omega.{arith}
-use Prim.Native.Nat.{_≤_}
-use lib.ListN.{length}
 use Rattle.tape_maker.proofs.ReportLaws.{subject, wide, finished-walkable, finished-reported, full-outnumber, search-done, search-full, zeroed-after, given-searched, full-searched}
 use Rattle.tape_maker.proofs.reporting.listed.Statement.{statement}
 use Rattle.tape_maker.proofs.reporting.listed.Tie as tie

@@ -1,6 +1,5 @@
 -- `tape_maker::reporting::prepare` meets its contract.
 use mathlib.Core.Path.{_≡_, sym, ap, _∙_, subst}
-use mathlib.Core.Bool.{false}
 use Prim.Native.Nat.{_-_, _≤_}
 use native.Mathlib.Omega.{arith}
 use borrow.Author.Needs.{needs}
@@ -9,10 +8,10 @@ use mir.Val.{toZ}
 use mir.Facts.{toZ-ofZ}
 use lib.IntN.{ℤ}
 use lib.ListN.{length}
+use Rattle.flow.specs.Code.{instructionOf}
 use Rattle.configuration.specs.declared.Op.{Op}
 use Rattle.tape_maker.specs.Inner.{Each}
 use Rattle.tape_maker.proofs.Tables.{filled-start}
-use Rattle.model.specs.Language.{hasExits}
 use Rattle.configuration.specs.Op.{opOf}
 use Rattle.table.specs.Passes.{blank}
 use Rattle.tape_maker.proofs.Tables.{held-row, Filled, filled-more, filled-end}
@@ -20,10 +19,10 @@ use Rattle.tape_maker.proofs.reporting.prepare.Statement.{statement}
 use Rattle.tape_maker.proofs.reporting.prepare.Tie as tie
 
 abbrev Inv-loop : tie.InvT-loop
-Inv-loop count lo instructions ops₀ i₀ ops i = (i ≤ count) × (count ≤ 64) × Filled (opOf (toZ w32 lo)) blank instructions count i ops
+Inv-loop instructions count lo ops₀ i₀ ops i = (i ≤ count) × (count ≤ 64) × Filled (opOf (toZ w32 lo)) blank instructions count i ops
 
 abbrev μ-loop : tie.MeasureT-loop
-μ-loop count lo instructions ops₀ i₀ ops i = count - i
+μ-loop instructions count lo ops₀ i₀ ops i = count - i
 
 loop-holds : tie.Need-loop-holds Inv-loop μ-loop
 unfolding opOf
@@ -32,17 +31,18 @@ loop-holds c = (omega arith, c .before .pre, filled-start _ blank _ _ _ (c .stop
 loop-again : tie.Need-loop-again Inv-loop μ-loop
 loop-again c = let a = c .before .before .before .before .before .args in
     let i = c .before .before .before .loop .i in
-    let long : length (a .t1) ≡ 64 = search needs in (
+    let long : length (a .instructions) ≡ 64 = search needs in (
       omega arith,
       c .before .before .before .loop .inv .1,
-      filled-more _ blank (a .t1) (a .count) i _ _ (omega arith) (c .before .before .before .loop .inv .2)
-          (c .prepare .ensures ∙ ap (opOf _) (sym (held-row (a .t1) (a .count) i _ (omega arith) (omega arith)))),
+      filled-more _ blank (a .instructions) (a .count) i _ _ (omega arith) (c .before .before .before .loop .inv .2)
+          (c .prepare .ensures
+          ∙ ap (opOf _) (ap instructionOf (c .before .row-at .ensures) ∙ sym (held-row (a .instructions) (a .count) i _ (omega arith) (omega arith)))),
     )
 
 returns : tie.Need-returns Inv-loop μ-loop
 returns c = let a = c .before .before .before .args in
-    subst (λ (z : ℤ). Each (opOf z) blank (a .t1) (a .count) (c .before .loop .ops)) (toZ-ofZ (c .before .before .before .fits .lo))
-    (filled-end _ blank (a .t1) (a .count) (c .before .loop .i) _ (omega arith) (c .before .loop .inv .2))
+    subst (λ (z : ℤ). Each (opOf z) blank (a .instructions) (a .count) (c .before .loop .ops)) (toZ-ofZ (c .before .before .before .fits .lo))
+    (filled-end _ blank (a .instructions) (a .count) (c .before .loop .i) _ (omega arith) (c .before .loop .inv .2))
 
 pub prepare-spec : {M : Type 1} → statement M
 prepare-spec =
@@ -52,8 +52,7 @@ prepare-spec =
     μ-loop
     (λ c κs. search needs)
     loop-holds
-    (λ c. search needs)
-    (λ c. search needs)
+    (λ c κs. search needs)
     (λ c κs. search needs)
     (λ c. search needs)
     (λ c. search needs)

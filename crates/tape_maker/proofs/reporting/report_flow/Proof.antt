@@ -1,12 +1,12 @@
 -- `tape_maker::reporting::report_flow` meets its contract: what it hands to the search is the flow's, prepared.
-use mathlib.Core.Path.{_≡_, refl, sym, ap, ap₂, _∙_, subst, subst⁻¹}
-use Prim.Native.Nat.{ℕ, _<_}
+use mathlib.Core.Path.{_≡_, refl, ap, ap₂, _∙_, subst, subst⁻¹}
+use Prim.Native.Nat.{_<_}
 use borrow.Author.Needs.{needs}
 use mir.Syntax.{w32}
 use mir.Val.{SFits, toZ, ofZ}
 use mir.Facts.{toZ-ofZ}
 use lib.IntN.{ℤ, pos}
-use Rattle.model.specs.Language.{C1, C2}
+use Rattle.model.specs.Language.{C1}
 use Rattle.flow.specs.Code.{flowOf}
 use Rattle.configuration.specs.Op.{offset, opOf, widthOf}
 use Rattle.configuration.specs.Pattern.{lane}
