@@ -1,18 +1,45 @@
 # make report FLOW=flows/a.flow   the report of a flow
 # make test                       all that the gate runs; the last line is `N passed, 0 failed`
+# make lib                        the static library for C and Rust: target/staticlib/libtilsando.a
+# make examples                   builds and runs the makers' programs in C and in Rust
+# make outside SEED=1             the library against a second implementation, on generated texts, tapes and samples
+# make bench                      the library against plain Rust: the tables of docs/BENCHMARKS.md
 
 FLOW ?= flows/a.flow
+SEED ?=
+CC ?= cc
+RUSTC ?= rustc
+LINKED = $(RUSTC) --edition 2021 -C opt-level=3 -L native=target/staticlib -l static=tilsando
 
-.PHONY: report test
+.PHONY: report test lib examples outside bench
 
-# Only a proved program is built, so the first time takes some minutes.
+# Only what is proved is built, so the first time takes some minutes.
 report:
 	@rt check report > target.log 2>&1 || { cat target.log; rm -f target.log; exit 1; }
 	@rm -f target.log
 	@target/bin/report < $(FLOW)
 
+lib:
+	@rt staticlib tilsando > target.log 2>&1 || { cat target.log; rm -f target.log; exit 1; }
+	@rm -f target.log
+	@echo target/staticlib/libtilsando.a
+
+examples: lib
+	@tools/examples "$(CC)" "$(RUSTC)"
+
+outside: lib
+	@mkdir -p target/rust
+	@$(LINKED) -o target/rust/outside tests/outside/src/main.rs
+	@target/rust/outside $(SEED)
+
+bench: lib
+	@mkdir -p target/rust
+	@$(LINKED) -o target/rust/bench bench/src/main.rs
+	@target/rust/bench
+
 test:
 	@tools/listed
 	@rt fmt --check
 	@python3 tests/readings.py
-	@rt ci
+	@python3 tests/reports.py
+	@tools/gate

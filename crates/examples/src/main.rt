@@ -1,49 +1,35 @@
-// The pieces of document 01 and the flows of flows/, run and printed: the end, the steps and the puts of a run, then how often each
-// exit of the first instructions was taken. The stored output has what the document says.
-use libc::STDOUT_FILENO;
+// The pieces of document 01 and the flows of flows/, run and printed. Of a run: the end, the steps and the puts, then how often each
+// exit of the first instructions was taken. Of a flow: its report. The stored output has what the document says.
 use tape_maker::RunAnswer;
 use tape_maker::RunEnd;
 
-fn print(bytes: &[u8]) {
-    io::write_all(STDOUT_FILENO, bytes);
-}
-
-fn print_number(n: u64) {
-    print(b",");
-    io::print_decimal(STDOUT_FILENO, n);
-}
-
 fn print_count(n: u32) {
-    print_number(n as u64);
+    show::field(n as u64);
 }
 
 fn print_end(end: RunEnd) {
     match end {
-        RunEnd::Stopped => print(b"stopped"),
-        RunEnd::Spent => print(b"spent"),
-        RunEnd::Full => print(b"full"),
-        RunEnd::Refused(r) => {
-            print(b"refused");
-            print_number(r.number() as u64);
-            print_number(r.place() as u64);
-        }
+        RunEnd::Stopped => show::print(b"stopped"),
+        RunEnd::Spent => show::print(b"spent"),
+        RunEnd::Full => show::print(b"full"),
+        RunEnd::Refused(r) => show::refusal(r),
     }
 }
 
 fn print_run(a: RunAnswer) {
     let end = a.end;
     print_end(end);
-    print_number(a.steps);
-    print_number(a.puts as u64);
+    show::field(a.steps);
+    show::field(a.puts as u64);
     let p = a.p;
     let m = a.m;
-    print(b" p");
+    show::print(b" p");
     print_count(p[0]);
     print_count(p[1]);
-    print(b" m");
+    show::print(b" m");
     print_count(m[0]);
     print_count(m[1]);
-    print(b"\n");
+    show::print(b"\n");
 }
 
 // One tape, so many output cells.
@@ -75,6 +61,46 @@ fn merge(row: &[i32], a: usize, b: usize) {
     print_run(tape_maker::run(text, 1000, row, &lengths, &mut numbers, &mut values));
 }
 
+// The report of flow A with 19 cells in every work row but one.
+fn report_a(places: &mut [u64]) {
+    let mut patterns = [0u64; 19];
+    let mut distances = [0u32; 19];
+    let mut parents = [0u32; 19];
+    let mut heads = [0u32; 19];
+    let mut nexts = [0u32; 19];
+    let mut fans = [0u8; 19];
+    show::report(tape_maker::report(
+        b"flow,1,0,1\n1,read,1,1,2,3\n2,over,5,1,1,3\n3,stop\n",
+        places,
+        &mut patterns,
+        &mut distances,
+        &mut parents,
+        &mut heads,
+        &mut nexts,
+        &mut fans,
+    ));
+}
+
+// Flow A with 18, 19 and 0 cells: the shortest row counts.
+fn cells() {
+    let mut few = [0u64; 18];
+    let mut enough = [0u64; 19];
+    let mut no = [0u64; 0];
+    report_a(&mut few);
+    report_a(&mut enough);
+    report_a(&mut no);
+}
+
+// The exits of which the document says that no tapes take them.
+fn reports() {
+    show::report_of(
+        b"flow,1,0,2\n1,read,1,1,2,6\n2,read,1,2,3,6\n3,over,3,1,4,6\n4,less,1,2,5,6\n5,under,2,5,6,6\n6,stop\n",
+    );
+    show::report_of(b"flow,1,0,1\n1,read,1,1,3,2\n2,read,1,1,3,3\n3,stop\n");
+    show::report_of(b"flow,1,0,1\n1,under,1,5,2,2\n2,stop\n");
+    show::report_of(b"flow,1,0,1\n1,less,1,1,2,2\n2,stop\n");
+}
+
 fn main() {
     flow_a(1000000, &[]);
     flow_a(1000000, &[5]);
@@ -100,4 +126,6 @@ fn main() {
         &mut values,
     );
     one_tape(b"flow,1,0,1\n1,stop\n", 0, &[], &mut numbers, &mut values);
+    reports();
+    cells();
 }

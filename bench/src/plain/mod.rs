@@ -1,0 +1,87 @@
+//! The library's algorithms in plain Rust: what the library is measured against. Nothing here is proved, and nothing is unsafe.
+
+pub mod cells;
+pub mod configuration;
+pub mod reading;
+pub mod running;
+pub mod sampling;
+pub mod searching;
+
+pub use cells::Rows;
+
+use configuration::{Op, Words};
+use reading::Flow;
+
+/// Instructions, configurations, and the distances of exits p and m of instruction i at i - 1; 0 for none.
+pub struct Report {
+    pub instructions: usize,
+    pub configurations: usize,
+    pub two: [bool; 64],
+    pub p: [u32; 64],
+    pub m: [u32; 64],
+}
+
+/// A flow prepared for a search.
+pub struct Plan {
+    pub ops: [Op; 64],
+    pub w: u64,
+    pub lo: i32,
+    pub hi: i32,
+    pub start: Words,
+}
+
+impl Plan {
+    pub fn of(flow: &Flow) -> Plan {
+        let (lo, hi) = configuration::range(flow);
+        let mut ops = [Op::STOP; 64];
+        for (op, x) in ops.iter_mut().zip(&flow.instructions[..flow.count]) {
+            *op = configuration::prepare(x, lo);
+        }
+        Plan { ops, w: (hi - lo) as u64 + 1, lo, hi, start: configuration::start(lo) }
+    }
+}
+
+/// The refusal's number and place.
+pub type Refusal = (u32, u64);
+
+pub fn report(text: &[u8], rows: &mut Rows) -> Result<Report, Refusal> {
+    let reported = reading::read(text).and_then(|flow| {
+        let plan = Plan::of(&flow);
+        let n = searching::search(rows, &plan).ok_or((9, 0))?;
+        let (p, m) = searching::exits(rows, n, &plan);
+        let mut two = [false; 64];
+        for (two, x) in two.iter_mut().zip(&flow.instructions[..flow.count]) {
+            *two = x.kind.two_exits();
+        }
+        Ok(Report { instructions: flow.count, configurations: n, two, p, m })
+    });
+    if reported.is_err() {
+        rows.clear();
+    }
+    reported
+}
+
+/// The distance and the lengths of the tapes; none if no tapes take the exit.
+pub fn sample(text: &[u8], instruction: u64, exit: bool, rows: &mut Rows, row: &mut [i32]) -> Result<Option<(u32, [usize; 3])>, Refusal> {
+    let sampled = reading::read(text).and_then(|flow| {
+        let there = 1 <= instruction && instruction <= flow.count as u64;
+        if !there || !flow.instructions[instruction as usize - 1].kind.two_exits() {
+            return Err((11, 0));
+        }
+        let plan = Plan::of(&flow);
+        let n = searching::search(rows, &plan).ok_or((9, 0))?;
+        let Some(k) = searching::nearest(rows, n, &plan, instruction as usize, exit) else {
+            return Ok(None);
+        };
+        let steps = rows.distances[k] as usize;
+        if row.len() < steps + 1 {
+            return Err((10, 0));
+        }
+        rows.trace(k);
+        Ok(Some((steps as u32 + 1, sampling::write(rows, steps, &plan, exit, row))))
+    });
+    if sampled.is_err() {
+        rows.clear();
+    }
+    sampled
+}

@@ -1,0 +1,82 @@
+//! The breadth-first search over the configurations of a flow.
+
+use super::cells::Rows;
+use super::configuration::{self as configuration, Action, Op, Words};
+use super::Plan;
+
+/// What a read that finds a record leads to from x, which is entry k: its fan, unless the fan is marked.
+fn fan(rows: &mut Rows, n: &mut usize, cells: usize, k: usize, d: u32, op: &Op, w: u64, x: Words) -> Option<()> {
+    if op.action != Action::Read || configuration::ended(x.place, op.tape) {
+        return Some(());
+    }
+    let v = op.variable;
+    let first = configuration::take(op, w, x, configuration::LOW);
+    let i = rows.visit(n, cells, first.place, first.pattern, d, k)?;
+    if rows.marked(i, v) {
+        return Some(());
+    }
+    for y in configuration::FIRST_TRIAL..=w + configuration::LAST_TRIAL {
+        let pattern = configuration::fan_at(first.pattern, w, v, y);
+        rows.visit(n, cells, first.place, pattern, d, k)?;
+    }
+    rows.mark(i, v);
+    Some(())
+}
+
+/// The number of reachable configurations; none if there are too few cells.
+pub fn search(rows: &mut Rows, plan: &Plan) -> Option<usize> {
+    let cells = rows.cells();
+    if cells == 0 {
+        return None;
+    }
+    rows.begin();
+    let mut n = 0;
+    rows.visit(&mut n, cells, plan.start.place, plan.start.pattern, 0, 0)?;
+    let mut k = 0;
+    while k < n {
+        let x = Words { place: rows.places[k], pattern: rows.patterns[k] };
+        let op = &plan.ops[configuration::at(x.place) - 1];
+        let d = rows.distances[k] + 1;
+        fan(rows, &mut n, cells, k, d, op, plan.w, x)?;
+        let y = configuration::next(op, plan.w, x);
+        rows.visit(&mut n, cells, y.place, y.pattern, d, k)?;
+        k += 1;
+    }
+    Some(n)
+}
+
+/// The distances of all exits.
+pub fn exits(rows: &Rows, n: usize, plan: &Plan) -> ([u32; 64], [u32; 64]) {
+    let mut p = [0; 64];
+    let mut m = [0; 64];
+    for k in 0..n {
+        let x = Words { place: rows.places[k], pattern: rows.patterns[k] };
+        let i = configuration::at(x.place) - 1;
+        let taken = configuration::exits_of(&plan.ops[i], plan.w, x);
+        let d = rows.distances[k] + 1;
+        if taken.0 && p[i] == 0 {
+            p[i] = d;
+        }
+        if taken.1 && m[i] == 0 {
+            m[i] = d;
+        }
+    }
+    (p, m)
+}
+
+/// The first entry that takes the exit.
+pub fn nearest(rows: &Rows, n: usize, plan: &Plan, instruction: usize, exit: bool) -> Option<usize> {
+    let op = &plan.ops[instruction - 1];
+    (0..n).find(|k| {
+        let x = Words { place: rows.places[*k], pattern: rows.patterns[*k] };
+        if configuration::at(x.place) != instruction {
+            return false;
+        }
+        let (p, m) = configuration::exits_of(op, plan.w, x);
+        if exit {
+            p
+        } else {
+            m
+        }
+    })
+}

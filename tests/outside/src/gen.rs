@@ -1,0 +1,480 @@
+//! Generated flows and texts, legal and damaged.
+
+use crate::reader::{self, Flow, Instruction};
+use crate::rng::Rng;
+
+/// The text of a flow.
+pub fn text_of(flow: &Flow) -> Vec<u8> {
+    let mut text = format!("flow,{},{},{}\n", flow.tapes, flow.outputs, flow.variables);
+    for (i, x) in flow.instructions.iter().enumerate() {
+        let line = match *x {
+            Instruction::Read { tape, v, p, m } => format!("read,{tape},{v},{p},{m}"),
+            Instruction::Put { v, output, n } => format!("put,{v},{output},{n}"),
+            Instruction::Copy { u, v, n } => format!("copy,{u},{v},{n}"),
+            Instruction::Set { c, v, n } => format!("set,{c},{v},{n}"),
+            Instruction::Less { u, v, p, m } => format!("less,{u},{v},{p},{m}"),
+            Instruction::Over { c, v, p, m } => format!("over,{c},{v},{p},{m}"),
+            Instruction::Under { v, c, p, m } => format!("under,{v},{c},{p},{m}"),
+            Instruction::Nop { n } => format!("nop,{n}"),
+            Instruction::Stop => "stop".to_string(),
+        };
+        text.push_str(&format!("{},{line}\n", i + 1));
+    }
+    text.into_bytes()
+}
+
+/// The constants that a flow draws from: few different ones, so that they meet.
+fn palette(rng: &mut Rng, variables: usize) -> Vec<i64> {
+    let (lo, hi) = match rng.below(20) {
+        0..=4 => (0, 0),
+        5..=10 => (-1, 2),
+        11..=15 => (-4, 6),
+        16 => (3, 5),
+        17 => (-30, -20),
+        18 if variables <= 2 => (-60, 70),
+        19 if variables == 1 || rng.percent(8) => (-1000, 1000),
+        _ => (-2, 1),
+    };
+    let mut constants: Vec<i64> = (0..1 + rng.below(4)).map(|_| rng.from(lo, hi)).collect();
+    if hi == 1000 && rng.percent(50) {
+        constants.extend([-1000, 1000]);
+    }
+    constants
+}
+
+struct Draw<'a> {
+    rng: &'a mut Rng,
+    tapes: usize,
+    outputs: usize,
+    variables: usize,
+    count: usize,
+    constants: Vec<i64>,
+}
+
+impl Draw<'_> {
+    fn variable(&mut self) -> usize {
+        1 + self.rng.below(self.variables)
+    }
+
+    fn constant(&mut self) -> i64 {
+        let i = self.rng.below(self.constants.len());
+        self.constants[i]
+    }
+
+    /// A target of instruction i: often the next one, so that much of the flow is reached.
+    fn target(&mut self, i: usize) -> usize {
+        match self.rng.below(10) {
+            0..=4 if i < self.count => i + 1,
+            5 => 1 + self.rng.below(i),
+            6 => self.count,
+            _ => 1 + self.rng.below(self.count),
+        }
+    }
+
+    fn instruction(&mut self, i: usize) -> Instruction {
+        let (u, v) = (self.variable(), self.variable());
+        let (c, p, m) = (self.constant(), self.target(i), self.target(i));
+        match self.rng.below(50) {
+            0..=14 => Instruction::Read { tape: 1 + self.rng.below(self.tapes), v, p, m },
+            15..=18 if self.outputs > 0 => Instruction::Put { v, output: 1 + self.rng.below(self.outputs), n: p },
+            19..=22 => Instruction::Copy { u, v, n: p },
+            23..=26 => Instruction::Set { c, v, n: p },
+            27..=33 => Instruction::Less { u, v, p, m },
+            34..=38 => Instruction::Over { c, v, p, m },
+            39..=43 => Instruction::Under { v, c, p, m },
+            44..=46 => Instruction::Nop { n: p },
+            47 => Instruction::Stop,
+            _ => Instruction::Read { tape: 1, v, p, m },
+        }
+    }
+}
+
+fn weighted(rng: &mut Rng, weights: &[usize]) -> usize {
+    let mut x = rng.below(weights.iter().sum());
+    for (i, w) in weights.iter().enumerate() {
+        if x < *w {
+            return i + 1;
+        }
+        x -= w;
+    }
+    1
+}
+
+/// Instructions of all kinds in any order.
+fn mixed(rng: &mut Rng) -> Flow {
+    let tapes = weighted(rng, &[6, 3, 1]);
+    let outputs = rng.below(4);
+    let variables = weighted(rng, &[8, 8, 3, 1]);
+    let count = match rng.below(20) {
+        0 => 64,
+        1 => 1 + rng.below(64),
+        2..=4 => 1 + rng.below(3),
+        _ => 2 + rng.below(12),
+    };
+    let constants = palette(rng, variables);
+    let mut draw = Draw { rng, tapes, outputs, variables, count, constants };
+    let mut instructions: Vec<Instruction> = (1..=count).map(|i| draw.instruction(i)).collect();
+    if draw.rng.percent(80) {
+        instructions[count - 1] = Instruction::Stop;
+    }
+    Flow { tapes, outputs, variables, instructions }
+}
+
+/// Reads, then comparisons in a chain: one exit of each leads to the next, the other to `stop`.
+fn chain(rng: &mut Rng) -> Flow {
+    let tapes = 1 + rng.below(2);
+    let variables = 1 + rng.below(4);
+    let reads = 1 + rng.below(variables + 1);
+    let tests = 1 + rng.below(6);
+    let count = reads + tests + 1;
+    let constants = palette(rng, variables);
+    let mut draw = Draw { rng, tapes, outputs: 0, variables, count, constants };
+    let mut instructions = Vec::new();
+    for i in 1..=reads + tests {
+        let (u, v, c) = (draw.variable(), draw.variable(), draw.constant());
+        let (p, m) = if draw.rng.percent(60) { (i + 1, count) } else { (count, i + 1) };
+        instructions.push(match draw.rng.below(3) {
+            _ if i <= reads => {
+                Instruction::Read { tape: 1 + draw.rng.below(tapes), v: if i <= variables { i } else { v }, p: i + 1, m: count }
+            }
+            0 => Instruction::Less { u, v, p, m },
+            1 => Instruction::Over { c, v, p, m },
+            _ => Instruction::Under { v, c, p, m },
+        });
+    }
+    instructions.push(Instruction::Stop);
+    Flow { tapes, outputs: 0, variables, instructions }
+}
+
+/// Rounds of reads, each followed by comparisons that let one order of the variables pass, with equals, all above or below the constants.
+fn orders(rng: &mut Rng) -> Flow {
+    let tapes = 1 + rng.below(3);
+    let variables = 2 + rng.below(3);
+    let c = if rng.percent(95) { rng.from(-2, 3) } else { rng.from(-1000, 1000) };
+    let mut instructions = Vec::new();
+    for round in 0..1 + rng.below(3) {
+        for v in 1..=variables {
+            if round == 0 || rng.percent(40) {
+                instructions.push(Instruction::Read { tape: 1 + rng.below(tapes), v, p: 1, m: 0 });
+            }
+        }
+        let mut order: Vec<(usize, usize)> = (1..=variables).map(|v| (rng.below(variables), v)).collect();
+        order.sort();
+        instructions.push(if rng.percent(50) {
+            Instruction::Over { c, v: order[0].1, p: 1, m: 0 }
+        } else {
+            Instruction::Under { v: order[variables - 1].1, c, p: 1, m: 0 }
+        });
+        for pair in order.windows(2) {
+            let (u, v) = (pair[0].1, pair[1].1);
+            if pair[0].0 < pair[1].0 {
+                instructions.push(Instruction::Less { u, v, p: 1, m: 0 });
+            } else {
+                instructions.push(Instruction::Less { u, v, p: 0, m: 1 });
+                instructions.push(Instruction::Less { u: v, v: u, p: 0, m: 1 });
+            }
+        }
+    }
+    // So far 1 stands for the next instruction and 0 for `stop`.
+    let stop = instructions.len() + 1;
+    for (i, x) in instructions.iter_mut().enumerate() {
+        if let Instruction::Read { p, m, .. }
+        | Instruction::Less { p, m, .. }
+        | Instruction::Over { p, m, .. }
+        | Instruction::Under { p, m, .. } = x
+        {
+            *p = if *p == 1 { i + 2 } else { stop };
+            *m = if *m == 1 { i + 2 } else { stop };
+        }
+    }
+    instructions.push(Instruction::Stop);
+    Flow { tapes, outputs: 0, variables, instructions }
+}
+
+/// Constants far apart, set, copied and compared with the one variable that is read.
+fn far_apart(rng: &mut Rng) -> Flow {
+    let variables = 2 + rng.below(3);
+    let (far, near) = (rng.from(100, 1000), rng.from(0, 9));
+    let constants = if rng.percent(50) { [-far, near, near - 1] } else { [far, -near, 1 - near] };
+    let steps = 3 + rng.below(10);
+    let stop = steps + 1;
+    let mut instructions = Vec::new();
+    for n in 2..=stop {
+        let c = *rng.pick(&constants);
+        let (u, v) = (1 + rng.below(variables), 1 + rng.below(variables - 1));
+        let (p, m) = if rng.percent(70) { (n, stop) } else { (stop, n) };
+        // Often the first three set the constant near 0, read, and ask for a record beyond it.
+        let sort = if n <= 4 && rng.percent(70) { [5, 0, 12][n - 2] } else { rng.below(12) };
+        instructions.push(match sort {
+            12 if constants[1] > constants[0] => Instruction::Over { c: near, v: variables, p: n, m: stop },
+            12 => Instruction::Under { v: variables, c: -near, p: n, m: stop },
+            0..=3 => Instruction::Read { tape: 1, v: variables, p: n, m: stop },
+            4..=6 => Instruction::Set { c: if n == 2 { constants[1] } else { c }, v, n },
+            7 => Instruction::Copy { u: v, v: 1 + rng.below(variables - 1), n },
+            8 => Instruction::Less { u: variables, v, p, m },
+            9 => Instruction::Less { u: v, v: u, p, m },
+            10 => Instruction::Over { c, v: u, p, m },
+            _ => Instruction::Under { v: u, c, p, m },
+        });
+    }
+    instructions.push(Instruction::Stop);
+    Flow { tapes: 1, outputs: 0, variables, instructions }
+}
+
+/// Each record must lie between two earlier ones, and takes the place of one of them: samples need room.
+fn squeeze(rng: &mut Rng) -> Flow {
+    let tapes = 1 + rng.below(3);
+    let levels = 1 + rng.below(14);
+    let far = if rng.percent(95) { rng.from(-4, 4) } else { rng.from(-1000, 1000) };
+    let up = rng.percent(50);
+    let stop = 4 + 4 * levels;
+    let mut instructions = vec![Instruction::Read { tape: 1, v: 1, p: 2, m: stop }, Instruction::Read { tape: 1, v: 2, p: 3, m: stop }];
+    instructions.push(if up {
+        Instruction::Over { c: far, v: 1, p: 4, m: stop }
+    } else {
+        Instruction::Under { v: 2, c: far, p: 4, m: stop }
+    });
+    for _ in 0..levels {
+        let i = instructions.len() + 1;
+        instructions.push(Instruction::Read { tape: 1 + rng.below(tapes), v: 3, p: i + 1, m: if rng.percent(80) { stop } else { i + 1 } });
+        instructions.push(Instruction::Less { u: 1, v: 3, p: i + 2, m: stop });
+        instructions.push(Instruction::Less { u: 3, v: 2, p: i + 3, m: stop });
+        instructions.push(Instruction::Copy { u: 3, v: 1 + rng.below(2), n: i + 4 });
+    }
+    instructions.push(Instruction::Stop);
+    Flow { tapes, outputs: 0, variables: 3, instructions }
+}
+
+/// A counter of several digits held by `set` and tests, with a record read for some counts: long distances.
+pub fn counter(bases: &[usize], reads: usize) -> Flow {
+    let mut instructions = Vec::new();
+    let sizes: Vec<usize> = bases.iter().enumerate().map(|(v, b)| 2 * b - 1 + if v == 0 { reads.min(*b) } else { 0 }).collect();
+    let stop = sizes.iter().sum::<usize>() + 2;
+    for (v, b) in bases.iter().enumerate() {
+        let carry = instructions.len() + sizes[v] + 1;
+        for digit in 0..*b {
+            let i = instructions.len() + 1;
+            let last = digit + 1 == *b;
+            let read = v == 0 && digit < reads;
+            if !last {
+                let c = digit as i64 + 1;
+                instructions.push(Instruction::Under { v: v + 1, c, p: i + 1, m: i + 2 + usize::from(read) });
+            }
+            if read {
+                let n = instructions.len() + 2;
+                instructions.push(Instruction::Read { tape: 1, v: 1, p: n, m: stop });
+            }
+            let c = if last { 0 } else { digit as i64 + 1 };
+            instructions.push(Instruction::Set { c, v: v + 1, n: if last { carry } else { 1 } });
+        }
+    }
+    instructions.push(Instruction::Under { v: 1, c: 1, p: stop, m: stop });
+    instructions.push(Instruction::Stop);
+    Flow { tapes: 1, outputs: 0, variables: bases.len(), instructions }
+}
+
+fn counters(rng: &mut Rng) -> Flow {
+    let digits = 1 + rng.below(4);
+    let bases: Vec<usize> = (0..digits).map(|_| 2 + rng.below(3)).collect();
+    let reads = rng.below(bases[0] + 1);
+    counter(&bases, reads)
+}
+
+/// Two reads with constants from 0 to 251 and n times `nop` before them: 65,535 + n configurations.
+pub fn edge(n: usize) -> Flow {
+    let mut instructions: Vec<Instruction> = (0..n).map(|i| Instruction::Nop { n: i + 2 }).collect();
+    instructions.push(Instruction::Read { tape: 1, v: 1, p: n + 2, m: n + 5 });
+    instructions.push(Instruction::Read { tape: 1, v: 2, p: n + 5, m: n + 3 });
+    instructions.push(Instruction::Under { v: 1, c: 251, p: n + 4, m: n + 5 });
+    instructions.push(Instruction::Nop { n: n + 5 });
+    instructions.push(Instruction::Stop);
+    Flow { tapes: 1, outputs: 0, variables: 2, instructions }
+}
+
+/// A legal flow.
+pub fn flow(rng: &mut Rng) -> Flow {
+    match rng.below(20) {
+        0..=3 => chain(rng),
+        4 | 5 => squeeze(rng),
+        6 => orders(rng),
+        7 => counters(rng),
+        8 => far_apart(rng),
+        _ => mixed(rng),
+    }
+}
+
+#[rustfmt::skip]
+const NUMBERS: [&str; 40] = [
+    "", "0", "1", "2", "3", "4", "5", "-1", "-0", "+1", "00", "01", "007", "-01", "--1", "-", "1-", "1.0", " 1", "1 ", "0x1", "1e3", "63", "64", "65",
+    "66", "255", "256", "257", "999", "1000", "1001", "-999", "-1000", "-1001", "65537", "4294967297", "18446744073709551617", "10000000000",
+    "99999999999999999999999999999999999999999",
+];
+
+/// Well written, and often out of range or turn.
+const WHOLE: [&str; 16] =
+    ["0", "1", "2", "3", "4", "5", "6", "12", "64", "65", "256", "1000", "1001", "65537", "4294967297", "18446744073709551617"];
+
+const WORDS: [&str; 24] = [
+    "read", "put", "copy", "set", "less", "over", "under", "nop", "stop", "flow", "", "Read", "READ", "rea", "reads", "read ", " nop",
+    "stop\r", "stop\0", "stopp", "sto", "const", "\u{e9}", "1",
+];
+
+const BYTES: &[u8] = b"0123456789,,,-\n\n+ \t\r\0aflowreadputcopysetlessoverundernopstop\xff\x80F.;";
+
+fn byte_edit(rng: &mut Rng, text: &mut Vec<u8>) {
+    let byte = *rng.pick(BYTES);
+    let i = rng.below(text.len() + 1);
+    match rng.below(3) {
+        0 => text.insert(i, byte),
+        1 if i < text.len() => drop(text.remove(i)),
+        2 if i < text.len() => text[i] = byte,
+        _ => {}
+    }
+}
+
+fn field_edit(rng: &mut Rng, line: &mut Vec<u8>) {
+    let mut fields: Vec<Vec<u8>> = line.split(|b| *b == b',').map(|f| f.to_vec()).collect();
+    let i = rng.below(fields.len());
+    match rng.below(14) {
+        0 => drop(fields.remove(i)),
+        1 => fields.insert(i, rng.pick(&NUMBERS).as_bytes().to_vec()),
+        2 => fields.push(Vec::new()),
+        3 => fields[i.min(1)] = rng.pick(&WORDS).as_bytes().to_vec(),
+        4 => {
+            let j = rng.below(fields.len());
+            fields.swap(i, j);
+        }
+        5 => fields[i] = vec![b'9'; 1 + rng.below(600)],
+        6 | 7 => fields[i] = rng.pick(&NUMBERS).as_bytes().to_vec(),
+        _ if fields.len() > 2 => fields[i.max(2)] = rng.pick(&WHOLE).as_bytes().to_vec(),
+        _ => fields[0] = rng.pick(&WHOLE).as_bytes().to_vec(),
+    }
+    *line = fields.join(&b',');
+}
+
+/// A number of a line put just in or just out of its range, or badly written as its kind of number can be.
+fn aimed_edit(rng: &mut Rng, flow: &Flow, lines: &mut [Vec<u8>]) {
+    let count = flow.instructions.len();
+    let at = rng.below(count + 1);
+    let mut fields: Vec<Vec<u8>> = lines[at].split(|b| *b == b',').map(|f| f.to_vec()).collect();
+    let i = rng.below(fields.len());
+    let about = |rng: &mut Rng, n: usize| (*rng.pick(&[0, 1, n.max(1) - 1, n, n + 1])).to_string();
+    let letters = fields.get(1).and_then(|word| reader::shape(word)).unwrap_or("");
+    let number = match (at, i) {
+        (0, 0) | (1.., 1) => return,
+        (0, 1 | 2) => about(rng, 3),
+        (0, _) => about(rng, 4),
+        (_, 0) => about(rng, at),
+        _ => match letters.as_bytes().get(i - 2) {
+            Some(b'A') => about(rng, flow.tapes),
+            Some(b'Y') => about(rng, flow.outputs),
+            Some(b'v') => about(rng, flow.variables),
+            Some(b'c') => {
+                rng.pick(&["-0", "-1", "-01", "-00", "-", "--1", "-1000", "-1001", "1000", "1001", "-999", "00", "+0"]).to_string()
+            }
+            _ => about(rng, count),
+        },
+    };
+    fields[i] = if rng.percent(10) { format!("-{number}").into_bytes() } else { number.into_bytes() };
+    lines[at] = fields.join(&b',');
+}
+
+/// A legal flow with one aimed edit or two.
+fn aimed(rng: &mut Rng) -> Vec<u8> {
+    let flow = flow(rng);
+    let mut lines: Vec<Vec<u8>> = text_of(&flow).split(|b| *b == 10).map(|l| l.to_vec()).collect();
+    for _ in 0..1 + rng.below(2) {
+        aimed_edit(rng, &flow, &mut lines);
+    }
+    lines.join(&10u8)
+}
+
+fn line_edit(rng: &mut Rng, text: &mut Vec<u8>) {
+    let mut lines: Vec<Vec<u8>> = text.split(|b| *b == 10).map(|l| l.to_vec()).collect();
+    let i = rng.below(lines.len());
+    match rng.below(8) {
+        0 => drop(lines.remove(i)),
+        1 => lines.insert(i, Vec::new()),
+        2 => {
+            let line = lines[i].clone();
+            lines.insert(i, line);
+        }
+        3 => {
+            let j = rng.below(lines.len());
+            lines.swap(i, j);
+        }
+        _ => field_edit(rng, &mut lines[i]),
+    }
+    *text = lines.join(&10u8);
+}
+
+/// So many instruction lines, each legal but for its targets or the count.
+fn many_lines(rng: &mut Rng) -> Vec<u8> {
+    let count = 60 + rng.below(10);
+    let mut text = b"flow,1,0,1\n".to_vec();
+    for i in 1..=count {
+        let last = if rng.percent(50) { 64 } else { 70 };
+        let to = 1 + rng.below(count.min(last));
+        text.extend(format!("{i},nop,{to}\n").bytes());
+    }
+    text
+}
+
+/// A text of a chosen size near 4,096 bytes, made long by the digits of one number.
+fn long_text(rng: &mut Rng, mut text: Vec<u8>) -> Vec<u8> {
+    let size = 4090 + rng.below(12);
+    let digits: Vec<usize> = (0..text.len()).filter(|i| text[*i].is_ascii_digit()).collect();
+    if let (false, Some(more)) = (digits.is_empty(), size.checked_sub(text.len())) {
+        let i = *rng.pick(&digits);
+        let fill = vec![*rng.pick(b"123456789"); more];
+        text.splice(i..i, fill);
+    }
+    text
+}
+
+/// A text that is damaged once or more; now and then it is legal all the same.
+pub fn damaged(rng: &mut Rng) -> Vec<u8> {
+    if rng.percent(40) {
+        return aimed(rng);
+    }
+    let mut text = text_of(&flow(rng));
+    match rng.below(24) {
+        0 => return many_lines(rng),
+        1 => return long_text(rng, text),
+        2 => {
+            text.pop();
+            return text;
+        }
+        3 if rng.percent(40) => return Vec::new(),
+        3 => return (0..rng.below(20)).map(|_| *rng.pick(BYTES)).collect(),
+        4 => {
+            let end = rng.below(text.len() + 1);
+            return text[..end].to_vec();
+        }
+        5 => {
+            let end = text.iter().position(|b| *b == 10).unwrap_or(0) + 1;
+            return text[..end].to_vec();
+        }
+        6 => text.extend(vec![10; 1 + rng.below(3)]),
+        _ => {}
+    }
+    for _ in 0..1 + rng.below(2) {
+        match rng.below(3) {
+            0 => byte_edit(rng, &mut text),
+            _ => line_edit(rng, &mut text),
+        }
+    }
+    text
+}
+
+/// A record: small, near a constant of the flow, or any.
+pub fn record(rng: &mut Rng, (lo, hi): (i64, i64)) -> i32 {
+    (match rng.below(8) {
+        0 => rng.from(-3, 3),
+        1 => rng.from(lo - 2, lo + 2),
+        2 => rng.from(hi - 2, hi + 2),
+        3 => rng.next() as i32 as i64,
+        4 => *rng.pick(&[i32::MIN as i64, i32::MAX as i64, i32::MIN as i64 + 1, 0]),
+        _ => rng.from(lo - 4, hi + 4),
+    }) as i32
+}

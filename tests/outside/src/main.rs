@@ -1,0 +1,316 @@
+//! Tests from outside: the static library against an independent implementation, on generated texts, tapes and samples.
+//!
+//!     outside [SEED [ROUNDS]]
+//!
+//! The implementation (reader.rs, interpreter.rs, search.rs) is written from documents 01 and 000 and shares nothing with the crates.
+//! Prints the seed, the cases by sort and outcome, and `N cases, M differences`. A difference is printed with its case in full, and the
+//! status is then 1; it is 1 too if an outcome that document 01 knows was never met.
+
+mod cases;
+mod ffi;
+mod gen;
+mod interpreter;
+mod lent;
+mod reader;
+mod rng;
+mod search;
+
+use cases::{Checked, Known, RunCase, SampleCase, TapeCase, Work};
+use reader::Flow;
+use rng::Rng;
+use std::collections::BTreeMap;
+use std::fmt::Debug;
+use std::process::ExitCode;
+
+const MOST: usize = 65_536;
+
+/// The outcomes that must be met, beside the refusals of the text.
+const OUTCOMES: [(&str, &[&str]); 4] = [
+    ("run", &["stopped", "spent", "full", "refused 12"]),
+    ("report", &["given", "refused 9"]),
+    ("sample", &["given", "none", "refused 9", "refused 10", "refused 11"]),
+    ("tape", &["a part", "the empty part"]),
+];
+
+/// Cases and differences; the largest numbers met.
+struct Tally {
+    seed: u64,
+    by_outcome: BTreeMap<(&'static str, String), usize>,
+    confirmed: usize,
+    configurations: usize,
+    distance: u32,
+    differences: usize,
+}
+
+impl Tally {
+    fn note(&mut self, sort: &'static str, checked: Checked, text: &[u8], case: &dyn Debug) {
+        *self.by_outcome.entry((sort, checked.outcome)).or_default() += 1;
+        if !checked.faults.is_empty() {
+            self.differ(sort, &checked.faults, text, case);
+        }
+    }
+
+    fn differ(&mut self, sort: &str, faults: &[String], text: &[u8], case: &dyn Debug) {
+        self.differences += 1;
+        if self.differences <= 20 {
+            println!("DIFFERENCE in a {sort}, seed {}", self.seed);
+            println!("text, {} bytes: {}", text.len(), text.escape_ascii());
+            println!("case: {case:?}");
+            for fault in faults {
+                println!("  {fault}");
+            }
+        }
+    }
+
+    /// The outcomes that were never met.
+    fn missing(&self) -> Vec<String> {
+        let refusals: Vec<String> = (1..=8).map(|n| format!("refused {n}")).collect();
+        let mut missing = Vec::new();
+        for (sort, outcomes) in OUTCOMES {
+            let of_text = refusals.iter().filter(|_| sort != "tape").map(String::as_str);
+            for outcome in outcomes.iter().copied().chain(of_text) {
+                if !self.by_outcome.contains_key(&(sort, outcome.to_string())) {
+                    missing.push(format!("{sort}: {outcome}"));
+                }
+            }
+        }
+        missing
+    }
+
+    fn cases(&self) -> usize {
+        self.by_outcome.values().sum()
+    }
+}
+
+fn known(text: &[u8]) -> Known {
+    let flow = reader::read(text)?;
+    let census = search::census(&flow, MOST);
+    Ok((flow, census))
+}
+
+/// Tapes for a flow, and now and then lengths that are refused.
+fn run_case(rng: &mut Rng, flow: Option<&Flow>) -> RunCase {
+    let range = flow.map_or((0, 0), |f| f.range());
+    let tapes = flow.map_or(1, |f| f.tapes);
+    let most = if rng.percent(5) { 300 } else { 12 };
+    let mut lengths: Vec<usize> = (0..tapes).map(|_| rng.below(most)).collect();
+    let sum: usize = lengths.iter().sum();
+    let records = (0..sum).map(|_| gen::record(rng, range)).collect();
+    match rng.below(40) {
+        0 => lengths.push(0),
+        1 => drop(lengths.pop()),
+        2 => lengths.clear(),
+        3 => lengths[0] += 1,
+        4 if lengths[0] > 0 => lengths[0] -= 1,
+        5 if tapes > 1 => {
+            // The lengths would add up to the row if the sum wrapped.
+            lengths[0] = usize::MAX - rng.below(3);
+            lengths[1] = sum.wrapping_sub(lengths[0]).wrapping_sub(lengths[2..].iter().sum());
+        }
+        6 => lengths[0] = usize::MAX,
+        _ => {}
+    }
+    let limit = match rng.below(100) {
+        0..=9 => rng.below(4) as u64,
+        10..=88 => rng.below(200) as u64,
+        89..=97 => rng.below(5000) as u64,
+        98 => 999_999 + rng.below(3) as u64,
+        _ => *rng.pick(&[1_000_001, u64::from(u32::MAX) + 1, u64::MAX]),
+    };
+    let cells = if rng.percent(30) { rng.below(5) } else { rng.below(250) };
+    let more = if rng.percent(50) { rng.below(4) } else { 0 };
+    let (numbers, values) = if rng.percent(50) { (cells, cells + more) } else { (cells + more, cells) };
+    RunCase { limit, records, lengths, numbers, values }
+}
+
+/// Cells around the number of configurations, and others.
+fn cells_for(rng: &mut Rng, known: &Known) -> usize {
+    let k = match known {
+        Ok((_, Some(census))) => census.configurations,
+        Ok((_, None)) if rng.percent(3) => return MOST + rng.below(3000),
+        Err(_) if rng.percent(2) => return rng.below(70_000),
+        _ => return rng.below(2000),
+    };
+    match rng.below(20) {
+        0..=2 => k - 1,
+        3..=10 => k,
+        11..=13 => k + 1,
+        14 => rng.below(k + 1),
+        15 if rng.percent(10) => MOST + rng.below(100),
+        16 if rng.percent(20) => 0,
+        _ => k + rng.below(500),
+    }
+}
+
+fn sample_case(rng: &mut Rng, known: &Known) -> SampleCase {
+    let exit = rng.percent(50);
+    let (flow, census) = match known {
+        Err(_) => return SampleCase { instruction: rng.below(5) as u64, exit, row: rng.below(20) },
+        Ok(known) => known,
+    };
+    let count = flow.instructions.len();
+    let two: Vec<usize> = (1..=count).filter(|i| flow.at(*i).two_exits()).collect();
+    let instruction = match rng.below(20) {
+        0 => *rng.pick(&[0, count as u64 + 1, 65, 1 << 32, (1 << 32) + 1, u64::MAX]),
+        1 => 1 + rng.below(count) as u64,
+        _ if !two.is_empty() => *rng.pick(&two) as u64,
+        _ => 1,
+    };
+    let fits = two.contains(&(instruction as usize)) && instruction <= count as u64;
+    let d = census.as_ref().filter(|_| fits).and_then(|c| cases::distance(flow, c, instruction, exit));
+    let row = match (d, rng.below(8)) {
+        (None, _) => rng.below(5),
+        (Some(d), 0) => d as usize - 1,
+        (Some(_), 1) => 0,
+        (Some(d), 2..=4) => d as usize,
+        (Some(d), 5..=6) => d as usize + 3,
+        (Some(d), _) => d as usize + rng.below(100),
+    };
+    SampleCase { instruction, exit, row }
+}
+
+fn tape_case(rng: &mut Rng) -> TapeCase {
+    let mut lengths: Vec<usize> = (0..rng.below(5)).map(|_| rng.below(6)).collect();
+    let sum: usize = lengths.iter().sum();
+    let size = match rng.below(6) {
+        0 => sum.saturating_sub(1),
+        1 => rng.below(sum + 4),
+        2 => sum + rng.below(8),
+        _ => sum,
+    };
+    if rng.percent(15) && !lengths.is_empty() {
+        let i = rng.below(lengths.len());
+        lengths[i] = usize::MAX - rng.below(4);
+        if rng.percent(50) {
+            lengths.push(1 + rng.below(6));
+        }
+    }
+    let tape = match rng.below(8) {
+        0 => 0,
+        1 => lengths.len() + 1,
+        2 => *rng.pick(&[usize::MAX, 1 << 32, 1 << 63]),
+        _ => 1 + rng.below(lengths.len().max(1)),
+    };
+    TapeCase { row: (0..size).map(|_| rng.next() as i32).collect(), lengths, tape }
+}
+
+/// The census again by trial of numbers, for a flow that is small enough. Both are ours: this is a check of the implementation itself.
+fn confirm(tally: &mut Tally, text: &[u8], known: &Known) {
+    let Ok((flow, Some(census))) = known else {
+        return;
+    };
+    let (lo, hi) = flow.range();
+    let reach = i64::from(census.depth) + 1;
+    let held = ((hi - lo + 1 + 2 * reach) as f64).powi(flow.variables as i32) * flow.instructions.len() as f64 * (1 << flow.tapes) as f64;
+    if held > 3000.0 {
+        return;
+    }
+    let tried = search::by_numbers(flow, reach);
+    tally.confirmed += 1;
+    if (tried.configurations, &tried.p, &tried.m) != (census.configurations, &census.p, &census.m) {
+        tally.differ("census of our own", &[format!("by patterns {census:?}, by trial of numbers {tried:?}")], text, &reach);
+    }
+}
+
+/// The report of a text, and samples for some of its exits.
+fn report_and_samples(rng: &mut Rng, tally: &mut Tally, text: &[u8], samples: usize) {
+    let known = known(text);
+    confirm(tally, text, &known);
+    if let Ok((_, Some(census))) = &known {
+        tally.configurations = tally.configurations.max(census.configurations);
+        tally.distance = tally.distance.max(census.p.iter().chain(&census.m).filter_map(|d| *d).max().unwrap_or(0));
+    }
+    let cells = cells_for(rng, &known);
+    let mut work = Work::new(rng, cells);
+    let checked = cases::report(rng, text, &known, &mut work);
+    tally.note("report", checked, text, &work.sizes());
+    for _ in 0..samples {
+        let case = sample_case(rng, &known);
+        let cells = cells_for(rng, &known);
+        let mut work = Work::new(rng, cells);
+        let checked = cases::sample(rng, text, &known, &mut work, &case);
+        tally.note("sample", checked, text, &(&case, work.sizes()));
+    }
+}
+
+/// Flows of 65,535 to 65,537 configurations, with rows about as long.
+fn edges(rng: &mut Rng, tally: &mut Tally) {
+    for n in 0..3 {
+        let text = gen::text_of(&gen::edge(n));
+        let known = known(&text);
+        for cells in [MOST - 2 + n, MOST - 1 + n, MOST + n, MOST + 3000] {
+            let mut work = Work::new(rng, cells);
+            let checked = cases::report(rng, &text, &known, &mut work);
+            tally.note("report", checked, &text, &work.sizes());
+            let mut work = Work::new(rng, cells);
+            let case = SampleCase { instruction: n as u64 + 3, exit: false, row: 5 };
+            let checked = cases::sample(rng, &text, &known, &mut work, &case);
+            tally.note("sample", checked, &text, &(&case, work.sizes()));
+        }
+    }
+}
+
+/// What document 01 says of flow A, so that the implementation is tied to the document and not to the library alone.
+fn pieces() {
+    let text = b"flow,1,0,1\n1,read,1,1,2,3\n2,over,5,1,1,3\n3,stop\n";
+    let flow = reader::read(text).expect("flow A is legal");
+    let census = search::census(&flow, 19).expect("flow A has 19 configurations");
+    assert_eq!(census.configurations, 19);
+    assert_eq!((census.p, census.m), (vec![Some(1), Some(2), None], vec![Some(1), Some(2), None]));
+    assert!(search::census(&flow, 18).is_none());
+    for (tape, steps) in [(vec![], 1), (vec![5], 2), (vec![6], 3), (vec![6, 9, 5], 6)] {
+        let ran = interpreter::run(&flow, &[tape], 1000, 0);
+        assert_eq!((ran.end, ran.steps), (interpreter::STOPPED, steps));
+    }
+    let chain = b"flow,1,0,2\n1,read,1,1,2,6\n2,read,1,2,3,6\n3,over,3,1,4,6\n4,less,1,2,5,6\n5,under,2,5,6,6\n6,stop\n";
+    let census = search::census(&reader::read(chain).expect("the chain is legal"), MOST).expect("the chain has few configurations");
+    assert_eq!((census.p[4], census.m[4]), (None, Some(5)));
+    assert_eq!(search::census(&gen::edge(0), MOST).map(|c| c.configurations), Some(65_535));
+}
+
+fn main() -> ExitCode {
+    let mut args = std::env::args().skip(1).map(|a| a.parse::<u64>().expect("a number"));
+    let seed = args.next().unwrap_or(20_260_101);
+    let rounds = args.next().unwrap_or(16_000);
+    println!("seed {seed}");
+    pieces();
+    let rng = &mut Rng::new(seed);
+    let mut tally = Tally { seed, by_outcome: BTreeMap::new(), confirmed: 0, configurations: 0, distance: 0, differences: 0 };
+    edges(rng, &mut tally);
+    for round in 0..rounds {
+        let flow = gen::flow(rng);
+        let text = gen::text_of(&flow);
+        assert_eq!(reader::read(&text).as_ref(), Ok(&flow), "a generated flow is read back");
+        for _ in 0..2 {
+            let case = run_case(rng, Some(&flow));
+            let checked = cases::run(rng, &text, &case);
+            tally.note("run", checked, &text, &case);
+        }
+        if round % 2 == 0 {
+            report_and_samples(rng, &mut tally, &text, 3);
+        }
+        let text = gen::damaged(rng);
+        let case = run_case(rng, reader::read(&text).ok().as_ref());
+        let checked = cases::run(rng, &text, &case);
+        tally.note("run", checked, &text, &case);
+        if round % 8 == 0 {
+            report_and_samples(rng, &mut tally, &text, 1);
+        }
+        let case = tape_case(rng);
+        let checked = cases::tape(rng, &case);
+        tally.note("tape", checked, b"", &case);
+    }
+    for ((sort, outcome), count) in &tally.by_outcome {
+        println!("{count:7} {sort}: {outcome}");
+    }
+    println!("searches of our own confirmed by trial of numbers: {}", tally.confirmed);
+    println!("generated flows have up to {} configurations, distances up to {}", tally.configurations, tally.distance);
+    for missing in tally.missing() {
+        println!("never met: {missing}");
+    }
+    println!("{} cases, {} differences", tally.cases(), tally.differences);
+    if tally.differences > 0 || !tally.missing().is_empty() {
+        return ExitCode::FAILURE;
+    }
+    ExitCode::SUCCESS
+}
