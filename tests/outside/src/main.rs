@@ -2,7 +2,7 @@
 //!
 //!     outside [SEED [ROUNDS]]
 //!
-//! The implementation (reader.rs, interpreter.rs, search.rs) is written from documents 01 and 000 and shares nothing with the crates.
+//! The implementation (reader.rs, interpreter.rs, search.rs) is written from documents 01 and 000 and shares no code with the crates.
 //! Prints the seed, the cases by sort and outcome, and `N cases, M differences`. A difference is printed with its case in full, and the
 //! status is then 1; it is 1 too if an outcome that document 01 knows was never met.
 
