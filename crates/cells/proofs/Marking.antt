@@ -1,24 +1,20 @@
 -- A mark that is set is there, and every other mark of every entry is as it was.
-use mathlib.Core.Path.{_≡_, refl, sym, ap, _∙_}
+use mathlib.Core.Path.{_≡_, sym, ap, _∙_}
 use mathlib.Core.Bool.{true, false}
 use mathlib.Core.List.{List}
 use mathlib.Core.Logic.{_⊎_, inl, inr}
-use Prim.Native.Nat.{ℕ, zero, suc, _+_, _-_, _*_, _/_, _%_, _^_, _<_}
-use native.Mathlib.Nat.{div-self, div-eq-of-lt, mod-lt, mod-eq-of-lt, mul-div-cancel, one-mul, two-pow-succ, zero-div}
+use Prim.Native.Nat.{ℕ, suc, _+_, _-_, _*_, _/_, _%_, _^_, _<_}
+use native.Mathlib.Nat.{div-eq-of-lt, mod-eq-of-lt, mul-div-cancel, one-mul, two-pow-succ, zero-div}
 use native.Mathlib.Decide.{ℕ-discrete, decLt}
 use native.Mathlib.Omega.{arith}
-use borrow.Author.Tests.{eq-eqb}
 use lib.Bits.{bitOr, or-shr, or-mod, or-zero-r}
 use lib.Dec.{eqb}
-use lib.ListN.{length, getD, set, replicate, length-set, length-replicate, getD-replicate, List·getD-eq-default}
+use lib.ListN.{length, getD, set, replicate, length-replicate, getD-replicate, List·getD-eq-default}
 use lib.Pow.{pow-pos, pow-lt, pow-add}
 use lib.Seq.{getD-set-same, getD-set-other}
 use Rattle.cells.specs.Marks.{isMarked, marking}
 
 -- ---- one bit of a number
-own-bit : (v : ℕ) → 2 ^ v / 2 ^ v % 2 ≡ 1
-own-bit v = ap (λ (n : ℕ). n % 2) (div-self (pow-pos v))
-
 even-above : (k u : ℕ) → 2 ^ (suc k + u) / 2 ^ u % 2 ≡ 0
 even-above k u =
     ap (λ (n : ℕ). n / 2 ^ u % 2) (pow-add 2 (suc k) u) ∙ ap (λ (n : ℕ). n % 2) (mul-div-cancel (2 ^ suc k) (pow-pos u))
@@ -33,11 +29,6 @@ other-bit u v (no l) n = ap (λ (k : ℕ). k % 2) (div-eq-of-lt (pow-lt (omega a
 bit-of-or : (x u v : ℕ) → bitOr x (2 ^ v) / 2 ^ u % 2 ≡ bitOr (x / 2 ^ u % 2) (2 ^ v / 2 ^ u % 2)
 bit-of-or x u v = ap (λ (n : ℕ). n % 2) (or-shr x (2 ^ v) u) ∙ or-mod (x / 2 ^ u) (2 ^ v / 2 ^ u) 1
 
-or-one : (b : ℕ) → b < 2 → bitOr b 1 ≡ 1
-or-one zero l = refl
-or-one (suc zero) l = refl
-or-one (suc (suc b)) l = absurd (omega arith)
-
 -- `1 << v` at eight bits
 pub shifted-one : (v : ℕ) → v < 8 → 1 * 2 ^ v % 256 ≡ 2 ^ v
 shifted-one v l = ap (λ (n : ℕ). n % 256) (one-mul (2 ^ v)) ∙ mod-eq-of-lt (pow-lt {j = 8} l)
@@ -48,14 +39,6 @@ module _ (fans : List ℕ) (i v : ℕ) (stored : i < length fans) where
   at-entry j s =
       ap (λ (k : ℕ). getD (set fans i (bitOr (getD fans i 0) (2 ^ v))) k 0) s
       ∙ getD-set-same fans i (bitOr (getD fans i 0) (2 ^ v)) 0 stored ∙ ap (λ (k : ℕ). bitOr (getD fans k 0) (2 ^ v)) (sym s)
-
-  pub mark-there : isMarked (marking fans i v) i v ≡ true
-  unfolding isMarked marking
-  mark-there =
-      eq-eqb _ 1
-      (ap (λ (n : ℕ). n / 2 ^ v % 2) (at-entry i refl) ∙ bit-of-or (getD fans i 0) v v
-      ∙ ap (λ (n : ℕ). bitOr (getD fans i 0 / 2 ^ v % 2) n) (own-bit v)
-      ∙ or-one (getD fans i 0 / 2 ^ v % 2) (mod-lt _ (omega arith)))
 
   pub mark-elsewhere : (j u : ℕ) → (j ≡ i → u ≡ v → ⊥) → isMarked (marking fans i v) j u ≡ isMarked fans j u
   unfolding isMarked marking
@@ -85,7 +68,3 @@ none-marked n j u = ap (λ (x : ℕ). eqb (x / 2 ^ u % 2) 1) (zeros (decLt j n))
     zeros : Dec (j < n) → getD {A = ℕ} (replicate n 0) j 0 ≡ 0
     zeros (yes l) = getD-replicate n j 0 0 l
     zeros (no l) = List·getD-eq-default (replicate n 0) 0 (simp length-replicate (omega arith))
-
-pub length-marking : (fans : List ℕ) (i v : ℕ) → length (marking fans i v) ≡ length fans
-unfolding marking
-length-marking fans i v = length-set fans i _

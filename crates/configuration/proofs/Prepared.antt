@@ -1,14 +1,8 @@
 -- Prepared instructions. A row's kind decides what it is, so that each arm of a match is the row with that kind in place of its own.
 use mathlib.Core.Path.{_≡_, refl, sym, ap, _∙_}
-use mathlib.Core.List.{List, [], _∷_, map}
-use Prim.Native.Nat.{ℕ, zero, suc, _-_, _<_, _≤_}
-use native.Mathlib.Omega.{arith}
+use Prim.Native.Nat.{ℕ, _-_}
 use lib.IntN.{ℤ}
-use lib.ListN.{length, getD, take, length-take, length-map, List·getD-eq-default}
-use lib.Seq.{getD-take}
-use Rattle.model.specs.Language.{stop, instruction}
-use Rattle.flow.specs.Code.{instructionOf, flowOf}
-use Rattle.flow.specs.declared.Flow.{Flow as Rows}
+use Rattle.flow.specs.Code.{instructionOf}
 use Rattle.flow.specs.declared.Instruction.{Instruction as Row}
 use Rattle.flow.specs.declared.Kind.{Kind}
 use Rattle.flow.specs.declared.Kind.the-variants.{Read, Put, Copy, Set, Less, Over, Under, Nop, Stop}
@@ -45,23 +39,3 @@ prepared lo x a v c r ea ev ec h = h ∙ (λ i. formed (x .kind) (ea i) (ev i) (
 -- an arm of the match on the kind
 pub formed-by : (k k′ : Kind) (a v c p m : ℕ) {r : Op} → r ≡ formed k′ a v c p m → k ≡ k′ → r ≡ formed k a v c p m
 formed-by k k′ a v c p m h e = h ∙ ap (λ (j : Kind). formed j a v c p m) (sym e)
-
--- ---- the instruction about to be run, by its row; past the count it is `stop`
-module _ (rows : Rows) (fits : rows .count ≤ length (rows .instructions)) where
-  length-rows : length (map instructionOf (take (rows .count) (rows .instructions))) ≡ rows .count
-  length-rows = length-map (take (rows .count) (rows .instructions)) instructionOf ∙ length-take (rows .count) (rows .instructions) ∙ omega arith
-
-  pub instruction-row : (i : ℕ) (d : Row) → i < rows .count → instruction (flowOf rows) (suc i) ≡ instructionOf (getD (rows .instructions) i d)
-  unfolding flowOf
-  instruction-row i d h =
-      at-map (take (rows .count) (rows .instructions)) i (omega (arith, length-take (rows .count) (rows .instructions)))
-      ∙ ap instructionOf (getD-take (rows .count) (rows .instructions) i d h)
-    where
-      at-map : (l : List Row) (j : ℕ) → j < length l → getD (map instructionOf l) j stop ≡ instructionOf (getD l j d)
-      at-map [] j k = absurd (omega arith)
-      at-map (y ∷ l) zero k = refl
-      at-map (y ∷ l) (suc j) k = at-map l j (omega arith)
-
-  pub instruction-past : (i : ℕ) → rows .count ≤ i → instruction (flowOf rows) (suc i) ≡ stop
-  unfolding flowOf
-  instruction-past i h = List·getD-eq-default (map instructionOf (take (rows .count) (rows .instructions))) stop (omega (arith, length-rows))

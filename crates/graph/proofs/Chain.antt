@@ -4,7 +4,7 @@
 use mathlib.Core.Path.{_≡_, sym, ap, _∙_, subst}
 use mathlib.Core.List.{List}
 use mathlib.Core.Logic.{_⊎_, inl, inr}
-use Prim.Native.Nat.{ℕ, zero, suc, _+_, _-_, _<_, _≤_}
+use Prim.Native.Nat.{ℕ, _+_, _-_, _<_, _≤_}
 use native.Mathlib.Decide.{ℕ-discrete}
 use native.Mathlib.Omega.{arith}
 use lib.ListN.{length, getD, set}
@@ -83,35 +83,6 @@ module _ {A L : Type 0} {G : Graph A L} {t : Table A} (sound : Sound G t) {path 
         edge = subst (λ (j : ℕ). G .Edge (t .node j) (k .label) (t .node (path (e + 1)))) p (k .edge);
         further = omega (arith, k .further, ap (t .dist) p);
       }
-
-  -- ---- where every edge costs 1, from an entry that stands at the place of its distance
-  module _ (unit : (l : L) → G .cost l ≡ 1) (far : t .dist i ≡ last) where
-    level-above : (g e : ℕ) → e + g ≡ last → d ≤ e → t .dist (path e) ≡ e
-    level-above zero e s l = let same : e ≡ last = omega arith in ap (λ (f : ℕ). t .dist (path f)) same ∙ ap (t .dist) (c .ends) ∙ far ∙ sym same
-    level-above (suc g) e s l =
-        let k = chain-leads e l (omega arith) in
-        omega (arith, level-above g (e + 1) (omega arith) (omega arith), k .further, unit (k .label))
-
-    pub chain-level : (e : ℕ) → d ≤ e → e ≤ last → t .dist (path e) ≡ e
-    chain-level e l m = level-above (last - e) e (omega arith) l
-
-    -- while place 0 is not filled, the entry at d has a parent
-    pub chain-not-done : 0 < d → 0 < path d
-    chain-not-done l = go (ℕ-discrete (path d) 0)
-      where
-        go : Dec (path d ≡ 0) → 0 < path d
-        go (yes p) = absurd (omega (arith, chain-level d (omega arith) (c .within), ap (t .dist) p, sound .origin-dist))
-        go (no p) = omega arith
-
-    -- at place 0 stands the start
-    pub chain-begins : d ≡ 0 → path 0 ≡ 0
-    chain-begins z = go (ℕ-discrete (path 0) 0)
-      where
-        go : Dec (path 0 ≡ 0) → path 0 ≡ 0
-        go (yes p) = p
-        go (no p) =
-            let k = sound .child (path 0) (omega arith) (c .stored 0 (omega arith) (omega arith)) in
-            absurd (omega (arith, k .further, unit (k .label), chain-level 0 (omega arith) (omega arith)))
 
 -- one place more, where the chain is a list that is written at place b
 pub chain-set : {A L : Type 0} {G : Graph A L} {t : Table A} → Sound G t → (row : List ℕ) {i last d : ℕ} → Chain t (λ e. getD row e 0) i last d

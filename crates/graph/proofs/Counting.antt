@@ -6,7 +6,7 @@ use mathlib.Core.Logic.{inl, inr}
 use Prim.Native.Nat.{ℕ, zero, suc, _+_, _<_, _≤_}
 use native.Mathlib.Decide.{decLt}
 use native.Mathlib.Omega.{arith}
-use lib.ListN.{length, getD}
+use lib.ListN.{length}
 use Rattle.graph.specs.Lists.{In, Once, Census, MoreThan}
 
 module _ {A : Type 0} where
@@ -78,25 +78,6 @@ module _ {A : Type 0} where
     λ h. let (i, k, e) = in-listed (λ j. f (suc j)) n (f zero) h in d zero (suc i) (omega arith) (omega arith) (sym e),
     listed-once (λ j. f (suc j)) n (λ i j a k. d (suc i) (suc j) (omega arith) (omega arith)),
   )
-
-  pub once-different : (f : ℕ → A) (n : ℕ) → Once (listed f n) → Different f n
-  unfolding listed
-  once-different f zero o i j a k = absurd (omega arith)
-  once-different f (suc n) o i zero a k = absurd (omega arith)
-  once-different f (suc n) o zero (suc j) a k =
-      λ e. o .0 (subst (λ (x : A). In x (listed (λ i. f (suc i)) n)) (sym e) (listed-in (λ i. f (suc i)) n j (omega arith)))
-  once-different f (suc n) o (suc i) (suc j) a k = once-different (λ m. f (suc m)) n (o .1) i j (omega arith) (omega arith)
-
-  pub listed-getD : (l : List A) (d : A) → listed (λ i. getD l i d) (length l) ≡ l
-  unfolding listed
-  listed-getD [] d = refl
-  listed-getD (x ∷ l) d = ap (λ (m : List A). x ∷ m) (listed-getD l d)
-
-  pub getD-once : (l : List A) (d : A) → Different (λ i. getD l i d) (length l) → Once l
-  getD-once l d h = subst (λ (m : List A). Once m) (listed-getD l d) (listed-once (λ i. getD l i d) (length l) h)
-
-  pub once-getD : (l : List A) (d : A) → Once l → Different (λ i. getD l i d) (length l)
-  once-getD l d o = once-different (λ i. getD l i d) (length l) (subst (λ (m : List A). Once m) (sym (listed-getD l d)) o)
 
   -- ---- censuses
   module _ {P : A → Type 0} where

@@ -2,11 +2,8 @@
 use mathlib.Core.Path.{_≡_}
 use Prim.Native.Nat.{ℕ}
 use native.Mathlib.Omega.{arith}
-use Rattle.graph.specs.Graph.{Graph, ExitDistance, NoExit}
+use Rattle.graph.specs.Graph.{Graph, ExitDistance}
 
 module _ {A L : Type 0} {G : Graph A L} {Wanted : A → L → Type 0} where
   pub distance-unique : (d e : ℕ) → ExitDistance G Wanted d → ExitDistance G Wanted e → d ≡ e
   distance-unique d e x y = omega (arith, x .least e (y .exit), y .least d (x .exit))
-
-  pub distance-not-none : (d : ℕ) → ExitDistance G Wanted d → NoExit G Wanted → ⊥
-  distance-not-none d x none = none d (x .exit)

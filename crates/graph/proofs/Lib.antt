@@ -6,5 +6,4 @@ pub mod Wanted
 pub mod Search
 pub mod Refusal
 pub mod Chain
-pub mod Bisimulation
 pub mod Examples

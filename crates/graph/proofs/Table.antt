@@ -97,12 +97,6 @@ stored-kept g l h =
       near = omega (arith, g .dists (h .at) (h .below), h .near);
     }
 
-pub stored-held : {A : Type 0} {t : Table A} {y : A} {d : ℕ} → Stored t y d → Held t y
-stored-held h = record { at = h .at; below = h .below; is = h .is }
-
-pub pushed-stored : {A : Type 0} {t t′ : Table A} {y : A} {d p : ℕ} → Pushed t t′ y d p → Stored t′ y d
-pushed-stored {t = t} w = record { at = t .count; below = omega (arith, w .one); is = w .node; near = omega (arith, w .dist) }
-
 -- a loop that finds the edges of entry i stored in a table that grows has expanded it
 pub expanded-since : {A L : Type 0} (G : Graph A L) {t t′ : Table A} → Extends t t′ → (i : ℕ) → i < t .count
     → ((l : L) (y : A) → G .Edge (t .node i) l y → Stored t′ y (t .dist i + G .cost l)) → Expanded G t′ i

@@ -44,31 +44,6 @@ module _ (takes : ℕ → Bool) where
   none-more k none e = below-more (λ j. takes j ≡ true → ⊥) k none (λ p. let z : _≡_ {A = ℕ} 0 1 = cc in omega arith)
 
   module _ (dist : ℕ → ℕ) where
-    pub nearest-kept : (k i : ℕ) → Nearest takes dist k i → (takes k ≡ true → dist i ≤ dist k) → Nearest takes dist (k + 1) i
-    nearest-kept k i h far =
-        record {
-          below = omega (arith, h .below);
-          takes-it = h .takes-it;
-          least = below-more (λ j. takes j ≡ true → dist i ≤ dist j) k (h .least) far;
-          first = h .first;
-        }
-
-    -- k takes, and each before it that does is further
-    pub nearest-here : (k : ℕ) → takes k ≡ true → ((j : ℕ) → j < k → takes j ≡ true → dist k < dist j) → Nearest takes dist (k + 1) k
-    nearest-here k e far =
-        record {
-          below = omega arith;
-          takes-it = e;
-          least = below-more (λ j. takes j ≡ true → dist k ≤ dist j) k (λ j l p. omega (arith, far j l p)) (λ p. omega arith);
-          first = far;
-        }
-
-    pub nearest-first : (k : ℕ) → NoneBefore takes k → takes k ≡ true → Nearest takes dist (k + 1) k
-    nearest-first k none e = nearest-here k e (λ j l p. absurd (none j l p))
-
-    pub nearest-nearer : (k i : ℕ) → Nearest takes dist k i → takes k ≡ true → dist k < dist i → Nearest takes dist (k + 1) k
-    nearest-nearer k i h e near = nearest-here k e (λ j l p. omega (arith, h .least j l p))
-
     -- along distances that never fall the first entry that takes is the nearest
     pub first-nearest : (n i : ℕ) → Sorted dist n → i < n → NoneBefore takes i → takes i ≡ true → Nearest takes dist n i
     first-nearest n i sorted l none e =

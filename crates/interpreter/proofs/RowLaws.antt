@@ -101,10 +101,6 @@ getD-map-in f (x ∷ l) zero d e h = refl
 getD-map-in f (x ∷ l) (suc k) d e h = getD-map-in f l k d e (omega arith)
 
 module _ (flow : Rows) (next : ℕ) (is : (1 ≤ next) × (next ≤ length (flowOf flow .instructions))) (d : Row) where
-  pub row-in : next - 1 < length (flow .instructions)
-  unfolding flowOf
-  row-in = omega (arith, length-map (take (flow .count) (flow .instructions)) instructionOf, length-take (flow .count) (flow .instructions))
-
   pub row-is : instruction (flowOf flow) next ≡ instructionOf (getD (flow .instructions) (next - 1) d)
   unfolding flowOf
   row-is = number next (is .0) ∙ getD-map-in instructionOf part (next - 1) d stop within

@@ -85,7 +85,8 @@ fn is_put(kind: Kind) -> bool
     }
 }
 
-fn two_exits(kind: Kind) -> bool
+// Whether an instruction of this kind has two exits.
+pub fn two_exits(kind: Kind) -> bool
     ensures { λ r. ⌜ r ≡ branches kind ⌝ }
 {
     match kind {

@@ -19,8 +19,7 @@ use Rattle.model.proofs.View.{View, reads, viewAt, stepView, exitView, 
 use Rattle.model.proofs.Side.{spread}
 use Rattle.model.proofs.Ranks.{length-pattern}
 use Rattle.model.proofs.Candidates.{Spaced, spaced-spread, spaced-set, fan}
-use Rattle.model.proofs.Graph.{trial, fedWith, Edge, still, fed, Reach}
-use Rattle.model.proofs.Path.{realise}
+use Rattle.model.proofs.Graph.{trial, fedWith, Edge, still, fed}
 
 pub record ByP (lo hi : ℤ) (c c′ : Configuration) (o : Option Exit) (a v p : ℕ) : Type 0 where
   pub exit : o ≡ some p-exit
@@ -69,9 +68,6 @@ pub record Proper (lo hi : ℤ) (c : Configuration) : Type 0 where
   pub marks : pattern lo hi values ≡ c .marks
 
 module _ {lo hi : ℤ} {flow : Flow} (l : Legal lo hi flow) where
-  pub reach-proper : (n : ℕ) (c : Configuration) → Reach lo hi flow n c → Proper lo hi c
-  reach-proper n c x = let q = realise l x in record { values = q .values; marks = q .follows .marks }
-
   pub proper-spaced : (c : Configuration) → Proper lo hi c → Spaced (l .zero) (length (c .marks)) (spread lo hi (c .marks))
   proper-spaced c q =
       let w = pattern lo hi (q .values) in

@@ -208,9 +208,6 @@ module _ {lo hi : ℤ} {flow : Flow} (l : Legal lo hi flow) (nt nv : ℕ) (more-
   pub none-narrow : (i : ℕ) (e : Exit) → NoDistance (wider nt nv flow) i e → NoDistance flow i e
   none-narrow i e none tapes n c t = none (tapes ++ unread) n (widened tapes c) (takes-widen tapes c i e n t)
 
-  pub none-widen : (i : ℕ) (e : Exit) → NoDistance flow i e → NoDistance (wider nt nv flow) i e
-  none-widen i e none tapes n c t = none (take (flow .tapes) tapes) n (narrowed tapes c) (takes-narrow tapes c i e n t)
-
   -- ---- a sample with more tapes is one without: of the others it holds no record
   pub sample-narrow : (i : ℕ) (e : Exit) (d : ℕ) (tapes : List (List ℤ)) → Sample lo hi (wider nt nv flow) i e d tapes
       → Sample lo hi flow i e d (take (flow .tapes) tapes) × (drop (flow .tapes) tapes ≡ replicate (nt - flow .tapes) [])
@@ -292,6 +289,3 @@ module _ {lo hi : ℤ} {flow : Flow} (l : Legal lo hi flow) (nt nv : ℕ) (more-
 
   pub census-narrow : (list : List Configuration) → Census lo hi (wider nt nv flow) list → Census lo hi flow (map narrow list)
   census-narrow list k = census-onto lo hi wide flow narrow widen reachable-narrow (λ c r. (reachable-widen c r, narrow-widen c r)) list k
-
-  pub census-widen : (list : List Configuration) → Census lo hi flow list → Census lo hi (wider nt nv flow) (map widen list)
-  census-widen list k = census-onto lo hi flow wide widen narrow (λ c r. (reachable-widen c r, narrow-widen c r)) reachable-narrow list k

@@ -62,10 +62,6 @@ finish-ended place n a h =
     ap (λ (l : List Bool). getD l a false) (ends-finish place a n)
     ∙ getD-set-same (endsOf place) a true false (omega (arith, length-ends place))
 
-and-not : (a b : Bool) → b ≡ true → (a && not b) ≡ false
-and-not true b h = ap not h
-and-not false b h = refl
-
 module _ (w : ℕ) (o : Op) (x : Words) where
   moves-none : o .tape < 3 → takesRecord o (nextOf w o x) ≡ false
   unfolding takesRecord nextOf

@@ -15,7 +15,7 @@ use borrow.Author.Tests.{eqb-true, eq-eqb}
 use Rattle.graph.proofs.Complete.{entry-path, path-stored}
 use Rattle.graph.proofs.Wanted.{NoneBefore}
 use Rattle.model.specs.Language.{Instruction, read, put, copy, const, less, over, under, nop, stop, Flow, instruction}
-use Rattle.model.specs.Machine.{Exit, exitBy, State, run}
+use Rattle.model.specs.Machine.{Exit, exitBy, State}
 use Rattle.model.specs.Distance.{Distance, NoDistance}
 use Rattle.flow.proofs.ClampLaws.{and-split}
 use Rattle.configuration.specs.Place.{atOf}
@@ -136,11 +136,6 @@ no-exit (over c v p m) s x h q = let z : _≡_ {A = ℕ} 0 1 = cc in omega arith
 no-exit (under v c p m) s x h q = let z : _≡_ {A = ℕ} 0 1 = cc in omega arith
 no-exit (nop n) s x h q = let z : _≡_ {A = ℕ} 0 1 = cc in omega arith
 no-exit stop s x h q = let z : _≡_ {A = ℕ} 0 1 = cc in omega arith
-
-pub plain-no-distance : (flow : Flow) (i : ℕ) (x : Exit) → hasExits (instruction flow i) ≡ false → NoDistance flow i x
-plain-no-distance flow i x h tapes d count k =
-    no-exit (instruction flow i) (run flow tapes (k .before)) x h
-    (subst (λ (j : ℕ). exitBy (instruction flow j) (run flow tapes (k .before)) ≡ some x) (k .here) (k .exit))
 
 -- a number past the flow's last
 pub past-plain : (flow : Flow) (i : ℕ) → length (flow .instructions) < i → hasExits (instruction flow i) ≡ false

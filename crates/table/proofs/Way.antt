@@ -1,6 +1,6 @@
 -- The way to an entry of a finished table, as it is traced into a row: it begins with the words of the start, ends with those of the entry,
 -- and from the words at each place an edge leads to the words at the next. So a run follows it step by step.
-use mathlib.Core.Path.{_≡_, sym, ap, _∙_, subst}
+use mathlib.Core.Path.{_≡_, sym, ap, _∙_}
 use mathlib.Core.List.{List}
 use mathlib.Core.Option.{Option}
 use Prim.Native.Nat.{ℕ, _+_, _<_, _≤_}
@@ -8,7 +8,6 @@ use native.Mathlib.Omega.{arith}
 use lib.IntN.{ℤ}
 use lib.ListN.{length, getD}
 use Rattle.graph.specs.Graph.{Path}
-use Rattle.graph.proofs.Complete.{entry-path}
 use Rattle.graph.proofs.Chain.{Chain, chain-leads}
 use Rattle.model.specs.Language.{Flow}
 use Rattle.model.specs.Machine.{Exit}
@@ -58,12 +57,6 @@ module _ {lo : ℤ} {w : ℕ} {flow : Flow} {e : Entries} {n : ℕ} (t : Complet
     pub way-edge : (d : ℕ) → d < last → (x : Option Exit) × Edge w (opAt lo flow (wordsOn e path d)) (wordsOn e path d) x (wordsOn e path (d + 1))
     unfolding wordGraph tableOf
     way-edge d l = let k = chain-leads (t .sound) traced-chain d (omega arith) l in (k .label, k .edge)
-
-    pub way-path : (d : ℕ) → d ≤ last → Path (wordGraph lo w flow) d (wordsOn e path d)
-    unfolding tableOf
-    way-path d l =
-        subst (λ (k : ℕ). Path (wordGraph lo w flow) k (wordsOn e path d)) (way .level d l)
-        (entry-path (t .sound) (getD path d 0) (way .entry d l))
 
 -- a pass can walk a way
 pub traced-passable : {places patterns distances parents path : List ℕ} {n at last : ℕ} → Walkable places patterns distances n

@@ -12,7 +12,8 @@ use Rattle.flow.specs.Code.{instructionOf}
 use Rattle.flow.specs.declared.Kind.{Kind}
 use Rattle.flow.specs.declared.Kind.the-variants.{Read, Put, Copy, Set, Less, Over, Under, Nop, Stop}
 use Rattle.flow.specs.declared.Instruction.{Instruction as Row}
-use Rattle.tape_maker.specs.Inner.{held, Each, twoExits, exitsIn}
+use Rattle.interpreter.specs.Held.{branches}
+use Rattle.tape_maker.specs.Inner.{held, Each, exitsIn}
 
 module _ (rows : List Row) (count : ℕ) where
   pub held-row : (i : ℕ) (d : Row) → i < count → count ≤ length rows → held rows count i ≡ instructionOf (getD rows i d)
@@ -67,11 +68,11 @@ module _ {A : Type 0} (f : Instruction → A) (d : A) (rows : List Row) (count :
       }
 
 -- a row has two exits by its kind
-pub two-exits : (x : Row) → twoExits (x .kind) ≡ exitsIn x
+pub two-exits : (x : Row) → branches (x .kind) ≡ exitsIn x
 unfolding exitsIn
 two-exits x = by (x .kind)
   where
-    by : (k : Kind) → twoExits k ≡ hasExits (instructionOf (record { kind = k; a = x .a; v = x .v; c = x .c; p = x .p; m = x .m }))
+    by : (k : Kind) → branches k ≡ hasExits (instructionOf (record { kind = k; a = x .a; v = x .v; c = x .c; p = x .p; m = x .m }))
     by Read = refl
     by Put = refl
     by Copy = refl

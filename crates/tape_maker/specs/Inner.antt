@@ -1,6 +1,6 @@
 -- Definitions that only inner contracts cite.
 use mathlib.Core.Path.{_≡_}
-use mathlib.Core.Bool.{Bool, true, false}
+use mathlib.Core.Bool.{Bool, false}
 use mathlib.Core.List.{List, _∷_, map}
 use Prim.Native.Nat.{ℕ, _<_, _≤_}
 use lib.IntN.{ℤ}
@@ -9,7 +9,6 @@ use Rattle.model.specs.Language.{Instruction, stop, Flow, hasExits, C1, C2}
 use Rattle.flow.specs.Limits.{maxInstructions}
 use Rattle.flow.specs.Code.{instructionOf}
 use Rattle.flow.specs.declared.Kind.{Kind}
-use Rattle.flow.specs.declared.Kind.the-variants.{Read, Put, Copy, Set, Less, Over, Under, Nop, Stop}
 use Rattle.flow.specs.declared.Instruction.{Instruction as Row}
 use Rattle.flow.specs.Legal.{Legal}
 use Rattle.configuration.specs.Op.{opOf, widthOf}
@@ -24,18 +23,6 @@ use Rattle.table.specs.declared.Distances.{Distances}
 use Rattle.tape_maker.specs.Sample.{Wanted, Held}
 use Rattle.tape_maker.specs.declared.ReportEnd.the-variants.{Given}
 use Rattle.tape_maker.specs.declared.ReportAnswer.{ReportAnswer}
-
--- whether an instruction of a kind has two exits
-abbrev pub twoExits : Kind → Bool
-twoExits Read = true
-twoExits Put = false
-twoExits Copy = false
-twoExits Set = false
-twoExits Less = true
-twoExits Over = true
-twoExits Under = true
-twoExits Nop = false
-twoExits Stop = false
 
 -- whether the instruction of a row has two exits
 unfoldable pub exitsIn : Row → Bool

@@ -9,7 +9,7 @@ ghost use Rattle.configuration.specs.Op.{opOf};
 ghost use Rattle.cells.specs.Cells.{rows};
 ghost use Rattle.table.specs.Passes.{blank};
 ghost use Rattle.tape_maker.specs.Report.{refusal, Searched};
-ghost use Rattle.tape_maker.specs.Inner.{twoExits, exitsIn, Each, GivenIs, Plan};
+ghost use Rattle.tape_maker.specs.Inner.{exitsIn, Each, GivenIs, Plan};
 use crate::ReportAnswer;
 use crate::ReportEnd;
 use configuration::Op;
@@ -17,7 +17,6 @@ use configuration::Words;
 use configuration::constants;
 use flow::Flow;
 use flow::Instruction;
-use flow::Kind;
 use flow::Refusal;
 use flow::lent;
 use table::Distances;
@@ -36,29 +35,12 @@ pub fn refused(r: Refusal) -> ReportAnswer
     }
 }
 
-// Whether an instruction of a kind has two exits.
-fn two_exits(kind: Kind) -> bool
-    ensures { λ r. ⌜ r ≡ twoExits kind ⌝ }
-{
-    match kind {
-        Kind::Read => true,
-        Kind::Put => false,
-        Kind::Copy => false,
-        Kind::Set => false,
-        Kind::Less => true,
-        Kind::Over => true,
-        Kind::Under => true,
-        Kind::Nop => false,
-        Kind::Stop => false,
-    }
-}
-
 // Whether an instruction has two exits.
 pub fn has_two(x: Instruction) -> bool
     ensures { λ r. ⌜ r ≡ exitsIn x ⌝ }
 {
     let kind = x.kind;
-    two_exits(kind)
+    interpreter::two_exits(kind)
 }
 
 // Which of the instructions have two exits.

@@ -1,5 +1,5 @@
 -- The lengths of tapes added up, no sum passing the row; and the part of one tape among all of them.
-use mathlib.Core.Path.{_≡_, refl, sym, ap, _∙_, subst}
+use mathlib.Core.Path.{_≡_, refl, ap, _∙_, subst}
 use mathlib.Core.List.{List, [], _∷_, _++_}
 use Prim.Native.Nat.{ℕ, zero, suc, min, _+_, _-_, _*_, _≤_, _<_}
 use native.Mathlib.Omega.{arith}
@@ -8,8 +8,8 @@ use native.Mathlib.Decide.{decLt, decLe}
 use borrow.Author.Tests.{lt-ltb, le-ltb, le-leb, lt-leb}
 use lib.IntN.{ℤ}
 use lib.ListN.{length, getD, take, drop}
-use lib.Seq.{drop-drop, take-suc, take-take, take-all}
-use Rattle.model.specs.Tapes.{tapesIn, total}
+use lib.Seq.{take-suc, take-take, take-all}
+use Rattle.model.specs.Tapes.{total}
 use Rattle.tapes.specs.Part.{nothing, spanOf, IsPart}
 use Rattle.tapes.specs.declared.Span.{Span}
 
@@ -92,15 +92,3 @@ is-part s row home place r e b o =
     (record { records = ap (λ (i : ℕ). take i (drop (r .start) row)) n; block = b; offset = o })
 
 -- ---- and it holds that tape of the row
-tape-at : (ns : List ℕ) (row : List ℤ) (i : ℕ) → i < length ns → getD (tapesIn ns row) i [] ≡ take (getD ns i 0) (drop (total (take i ns)) row)
-unfolding total
-tape-at [] row i h = absurd (omega arith)
-tape-at (n ∷ ns) row zero h = refl
-tape-at (n ∷ ns) row (suc i) h =
-    tape-at ns (drop n row) i (omega arith) ∙ ap (take (getD ns i 0)) (drop-drop (total (take i ns)) n row)
-
-pub part-tape : (ns : List ℕ) (a : ℕ) (row : List ℤ) (home part-place : ℕ × ℕ) (part : List ℤ) → 0 < a → a ≤ length ns → total ns ≤ length row
-    → IsPart (spanOf ns a (length row)) row home part part-place → part ≡ getD (tapesIn ns row) (a - 1) []
-part-tape ns a row home place part h k n p =
-    let e = span-there ns a (length row) h k n in
-    p .records ∙ ap (λ (s : Span). take (s .count) (drop (s .start) row)) e ∙ sym (tape-at ns row (a - 1) (omega arith))
