@@ -5,8 +5,9 @@ The reader here is written from document 01 alone ("The flow text", "Where a req
 the crates. Without an argument the files of crates/readings are compared with what this script makes; with --write they are
 written.
 """
-import pathlib
 import sys
+
+import stored
 
 # ---- an independent reader: the answer is the flow's own text, or the refusal
 
@@ -244,34 +245,11 @@ case("order/line-2-with-7-line-3-with-5", flow("1,nop,0", "2,set,1001,1,1"))
 # ---- the files of crates/readings
 
 def files():
-    made = {f"data/{name}": text for name, text in CASES.items()}
-    made["data/index"] = "".join(name + "\n" for name in CASES).encode()
-    made["stdout"] = b"".join(name.encode() + b" " + read(text) for name, text in CASES.items())
+    made = {f"readings/data/{name}": text for name, text in CASES.items()}
+    made["readings/data/index"] = "".join(name + "\n" for name in CASES).encode()
+    made["readings/stdout"] = b"".join(name.encode() + b" " + read(text) for name, text in CASES.items())
     return made
 
 
-def there(crate):
-    found = [f for f in crate.glob("data/**/*") if f.is_file()] + [f for f in [crate / "stdout"] if f.exists()]
-    return {f.relative_to(crate).as_posix(): f.read_bytes() for f in found}
-
-
-def main():
-    crate = pathlib.Path(__file__).resolve().parent.parent / "crates" / "readings"
-    made = files()
-    if "--write" in sys.argv[1:]:
-        for name in set(there(crate)) - set(made):
-            (crate / name).unlink()
-        for name, content in made.items():
-            (crate / name).parent.mkdir(parents=True, exist_ok=True)
-            (crate / name).write_bytes(content)
-    found = there(crate)
-    wrong = sorted(name for name in set(found) | set(made) if found.get(name) != made.get(name))
-    for name in wrong:
-        print("differs:", name)
-    if not wrong:
-        print(len(CASES), "texts agree")
-    return 1 if wrong else 0
-
-
 if __name__ == "__main__":
-    sys.exit(main())
+    sys.exit(stored.compare(["readings"], files(), f"{len(CASES)} texts agree"))

@@ -5,13 +5,12 @@ The reports are those of the plain searches of tests/searches.py, and the refusa
 comes from the crates. The searches are held to each other, and the files of crates/reports and crates/samples are compared with
 what this script makes; with --write they are written.
 """
-import pathlib
 import sys
 
 import readings
 import searches
+import stored
 
-ROOT = pathlib.Path(__file__).resolve().parent.parent
 CELLS = 4096
 
 # ---- the flows, by topic and name
@@ -63,7 +62,7 @@ case("document", "second-read", flow("1,0,1", "read,1,1,3,2", "read,1,1,3,3", "s
 case("document", "under-first", flow("1,0,1", "under,1,5,2,2", "stop"))
 case("document", "less-itself", flow("1,0,1", "less,1,1,2,2", "stop"))
 case("document", "stop-alone", flow("1,0,1", "stop"))
-for file in sorted((ROOT / "flows").glob("*.flow")):
+for file in sorted((stored.ROOT / "flows").glob("*.flow")):
     case("document", file.stem, file.read_text())
 
 # flows as they are used
@@ -358,31 +357,14 @@ def files():
     return made, flows
 
 
-def there(crates):
-    found = [f for crate in ("reports", "samples") for f in [*crates.glob(f"{crate}/data/*"), *crates.glob(f"{crate}/stdout")]]
-    return {f.relative_to(crates).as_posix(): f.read_text() for f in found}
-
-
 def main():
-    crates = ROOT / "crates"
     made, flows = files()
     bounded, listed = sum(map(by_bounds, flows)), sum(map(by_tapes, flows))
     for name, text in TOPICS["limit"].items():
         assert searches.configurations(text, CELLS + 1)[0] == int(name[-4:]), name
     assert len(made["reports/data/flows"]) <= 131072, "the programs lend a row of that size"
-    if "--write" in sys.argv[1:]:
-        for name in set(there(crates)) - set(made):
-            (crates / name).unlink()
-        for name, content in made.items():
-            (crates / name).parent.mkdir(parents=True, exist_ok=True)
-            (crates / name).write_text(content)
-    found = there(crates)
-    wrong = sorted(name for name in set(found) | set(made) if found.get(name) != made.get(name))
-    for name in wrong:
-        print("differs:", name)
-    if not wrong:
-        print(f"{len(flows)} flows agree; {bounded} searched whole by bounds, {listed} by all short tapes")
-    return 1 if wrong else 0
+    agreed = f"{len(flows)} flows agree; {bounded} searched whole by bounds, {listed} by all short tapes"
+    return stored.compare(["reports", "samples"], {name: content.encode() for name, content in made.items()}, agreed)
 
 
 if __name__ == "__main__":
