@@ -2,7 +2,7 @@
 # make test                       all that the gate runs; the last line is `N passed, 0 failed`
 # make lib                        the static library for C and Rust: target/staticlib/libtilsando.a
 # make examples                   builds and runs the makers' programs in C and in Rust
-# make outside SEED=1             the library against a second implementation, on generated texts, tapes and samples
+# make outside SEED=1             library and program against a second implementation, on generated texts, tapes and samples
 # make bench                      the library against plain Rust: the tables of docs/BENCHMARKS.md
 
 FLOW ?= flows/a.flow
@@ -11,26 +11,31 @@ CC ?= cc
 RUSTC ?= rustc
 LINKED = $(RUSTC) --edition 2021 -C opt-level=3 -L native=target/staticlib -l static=tilsando
 
-.PHONY: report test lib examples outside bench
+.PHONY: report program test lib examples outside bench
 
 # Only what is proved is built, so the first time takes some minutes.
-report:
-	@rt check report > target.log 2>&1 || { cat target.log; rm -f target.log; exit 1; }
-	@rm -f target.log
+define proved
+@$(1) > target.log 2>&1 || { cat target.log; rm -f target.log; exit 1; }
+@rm -f target.log
+endef
+
+report: program
 	@target/bin/report < $(FLOW)
 
+program:
+	$(call proved,rt check report)
+
 lib:
-	@rt staticlib tilsando > target.log 2>&1 || { cat target.log; rm -f target.log; exit 1; }
-	@rm -f target.log
+	$(call proved,rt staticlib tilsando)
 	@echo target/staticlib/libtilsando.a
 
 examples: lib
 	@tools/examples "$(CC)" "$(RUSTC)"
 
-outside: lib
+outside: lib program
 	@mkdir -p target/rust
 	@$(LINKED) -o target/rust/outside tests/outside/src/main.rs
-	@target/rust/outside $(SEED)
+	@REPORT=target/bin/report target/rust/outside $(SEED)
 
 bench: lib
 	@mkdir -p target/rust

@@ -1,11 +1,13 @@
 //! One call of the library and what the independent implementation says of it: the answer, and the later content of every row.
 
+use crate::documents::flow::{Flow, Refusal};
+use crate::documents::interpreter::{self, End};
+use crate::documents::reader;
+use crate::documents::sample::{faults as sample_faults, part, wanted};
+use crate::documents::search::Census;
 use crate::ffi;
-use crate::interpreter::{self, Machine};
 use crate::lent::{Cell, Lent};
-use crate::reader::{self, Flow, Refusal};
 use crate::rng::Rng;
-use crate::search::Census;
 
 /// What a check comes to: the outcome, for the counts, and what differs.
 pub struct Checked {
@@ -58,10 +60,8 @@ pub fn run(rng: &mut Rng, text: &[u8], case: &RunCase) -> Checked {
             p.ptr(), p.len(), m.ptr(), m.len(), answer.ptr(), answer.len(),
         )
     };
-    let ran = reader::read(text).and_then(|flow| {
-        let tapes = interpreter::tapes_of(&flow, &case.records, &case.lengths)?;
-        Ok(interpreter::run(&flow, &tapes, case.limit, case.numbers.min(case.values)))
-    });
+    let free = case.numbers.min(case.values);
+    let ran = reader::read(text).and_then(|flow| interpreter::run(&flow, case.limit, &case.records, &case.lengths, free));
     let mut faults = vec![bytes.fault("text", &[]), records.fault("records", &[]), lengths.fault("lengths", &[])];
     match ran {
         Err(Refusal { number: want, place }) => {
@@ -75,8 +75,13 @@ pub fn run(rng: &mut Rng, text: &[u8], case: &RunCase) -> Checked {
             let (outputs, put): (Vec<u8>, Vec<i32>) = ran.puts.iter().copied().unzip();
             faults.extend([numbers.fault("numbers", &outputs), values.fault("values", &put)]);
             faults.extend([p.fault("p", &sixty_four(&ran.p)), m.fault("m", &sixty_four(&ran.m))]);
-            faults.push(answer.fault("answer", &[0, ran.end, ran.steps, put.len() as u64]));
-            checked(["", "stopped", "spent", "full"][ran.end as usize].to_string(), faults)
+            let (end, outcome) = match ran.end {
+                End::Stopped => (1, "stopped"),
+                End::Spent => (2, "spent"),
+                End::Full => (3, "full"),
+            };
+            faults.push(answer.fault("answer", &[0, end, ran.steps, put.len() as u64]));
+            checked(outcome.to_string(), faults)
         }
     }
 }
@@ -184,7 +189,7 @@ pub fn report(rng: &mut Rng, text: &[u8], known: &Known, work: &mut Work) -> Che
         }
         Ok((flow, census)) => {
             wrong_number(&mut faults, number, 0);
-            let exits: Vec<u8> = flow.instructions.iter().map(|x| u8::from(x.two_exits())).collect();
+            let exits: Vec<u8> = flow.instructions.iter().map(|x| u8::from(x.exits().is_some())).collect();
             faults.extend([
                 two.fault("two", &sixty_four(&exits)),
                 p.fault("p", &distances(&census.p)),
@@ -201,67 +206,6 @@ pub struct SampleCase {
     pub instruction: u64,
     pub exit: bool,
     pub row: usize,
-}
-
-/// The distance of an exit of an instruction that has two.
-pub fn distance(flow: &Flow, census: &Census, instruction: u64, exit: bool) -> Option<u32> {
-    let i = instruction as usize - 1;
-    debug_assert!(flow.instructions[i].two_exits());
-    if exit {
-        census.p[i]
-    } else {
-        census.m[i]
-    }
-}
-
-/// What a sample that was given breaks of what document 01 says of it.
-fn sample_faults(flow: &Flow, case: &SampleCase, d: u32, row: &[i32], lengths: &[u64]) -> Vec<Option<String>> {
-    let (lo, hi) = flow.range();
-    let d = i64::from(d);
-    let mut tapes = Vec::new();
-    let mut rest = row;
-    for (a, n) in lengths.iter().enumerate() {
-        if *n > rest.len() as u64 || (a >= flow.tapes && *n > 0) {
-            return vec![Some(format!("lengths {lengths:?} in a row of {}, {} tapes", row.len(), flow.tapes))];
-        }
-        let (tape, more) = rest.split_at(*n as usize);
-        tapes.push(tape.iter().map(|x| i64::from(*x)).collect::<Vec<i64>>());
-        rest = more;
-    }
-    tapes.truncate(flow.tapes);
-    let far = tapes.concat().into_iter().find(|x| !(lo - d..=hi + d).contains(x));
-    let mut machine = Machine::new(flow, &tapes);
-    let mut taken_at = None;
-    for step in 1..=d {
-        let at = machine.next;
-        if machine.step() == Some(case.exit) && at as u64 == case.instruction {
-            taken_at = Some(step);
-            break;
-        }
-    }
-    let left: usize = machine.left.iter().map(|t| t.len()).sum();
-    vec![
-        far.map(|x| format!("record {x} does not lie from {} to {}", lo - d, hi + d)),
-        (taken_at != Some(d)).then(|| format!("the exit is first taken at step {taken_at:?}, should be {d}; tapes {tapes:?}")),
-        (left > 0).then(|| format!("{left} records are not read; tapes {tapes:?}")),
-    ]
-}
-
-/// What is wanted: a refusal, none, or a distance.
-fn wanted(known: &Known, case: &SampleCase, cells: usize) -> Result<Option<u32>, Refusal> {
-    let (flow, census) = match known {
-        Err(refusal) => return Err(*refusal),
-        Ok(known) => known,
-    };
-    let count = flow.instructions.len() as u64;
-    if !(1..=count).contains(&case.instruction) || !flow.at(case.instruction as usize).two_exits() {
-        return Err(Refusal { number: 11, place: 0 });
-    }
-    let census = searched(census, cells)?;
-    match distance(flow, census, case.instruction, case.exit) {
-        Some(d) if case.row < d as usize => Err(Refusal { number: 10, place: 0 }),
-        d => Ok(d),
-    }
 }
 
 pub fn sample(rng: &mut Rng, text: &[u8], known: &Known, work: &mut Work, case: &SampleCase) -> Checked {
@@ -281,7 +225,10 @@ pub fn sample(rng: &mut Rng, text: &[u8], known: &Known, work: &mut Work, case: 
         )
     };
     let cells = work.sizes().into_iter().min().unwrap_or(0);
-    let want = wanted(known, case, cells);
+    let want = match known {
+        Err(refusal) => Err(*refusal),
+        Ok((flow, census)) => wanted(flow, case.instruction, case.exit, searched(census, cells), case.row),
+    };
     let mut faults = work.faults(want.is_err());
     faults.push(bytes.fault("text", &[]));
     match want {
@@ -302,7 +249,7 @@ pub fn sample(rng: &mut Rng, text: &[u8], known: &Known, work: &mut Work, case: 
             content.extend(answer.now().iter().skip(2).take(3));
             faults.push(answer.fault("answer", &content));
             if let (Some(lengths), Ok((flow, _))) = (answer.now().get(2..5), known) {
-                faults.extend(sample_faults(flow, case, d, row.now(), lengths));
+                faults.extend(sample_faults(flow, case.instruction, case.exit, d, row.now(), lengths).into_iter().map(Some));
                 let written: u128 = lengths.iter().map(|n| *n as u128).sum();
                 let written = row.now()[..(written.min(row.len() as u128)) as usize].to_vec();
                 faults.push(row.fault("row", &written));
@@ -329,10 +276,8 @@ pub fn tape(rng: &mut Rng, case: &TapeCase) -> Checked {
             row.ptr(), row.len(), lengths.ptr(), lengths.len(), case.tape, answer.ptr(), answer.len(),
         )
     };
-    let sum = |lengths: &[usize]| lengths.iter().map(|n| *n as u128).sum::<u128>();
-    let there = (1..=case.lengths.len()).contains(&case.tape) && sum(&case.lengths) <= case.row.len() as u128;
-    let part = if there { [sum(&case.lengths[..case.tape - 1]) as u64, case.lengths[case.tape - 1] as u64] } else { [0, 0] };
-    let mut faults = vec![answer.fault("answer", &part), row.fault("row", &[]), lengths.fault("lengths", &[])];
+    let (start, count) = part(case.row.len(), &case.lengths, case.tape);
+    let mut faults = vec![answer.fault("answer", &[start as u64, count as u64]), row.fault("row", &[]), lengths.fault("lengths", &[])];
     wrong_number(&mut faults, number, 0);
-    checked(if there { "a part" } else { "the empty part" }.to_string(), faults)
+    checked(if count > 0 { "a part" } else { "the empty part" }.to_string(), faults)
 }

@@ -1,27 +1,7 @@
 //! Generated flows and texts, legal and damaged.
 
-use crate::reader::{self, Flow, Instruction};
+use crate::documents::flow::{Flow, Instruction};
 use crate::rng::Rng;
-
-/// The text of a flow.
-pub fn text_of(flow: &Flow) -> Vec<u8> {
-    let mut text = format!("flow,{},{},{}\n", flow.tapes, flow.outputs, flow.variables);
-    for (i, x) in flow.instructions.iter().enumerate() {
-        let line = match *x {
-            Instruction::Read { tape, v, p, m } => format!("read,{tape},{v},{p},{m}"),
-            Instruction::Put { v, output, n } => format!("put,{v},{output},{n}"),
-            Instruction::Copy { u, v, n } => format!("copy,{u},{v},{n}"),
-            Instruction::Set { c, v, n } => format!("set,{c},{v},{n}"),
-            Instruction::Less { u, v, p, m } => format!("less,{u},{v},{p},{m}"),
-            Instruction::Over { c, v, p, m } => format!("over,{c},{v},{p},{m}"),
-            Instruction::Under { v, c, p, m } => format!("under,{v},{c},{p},{m}"),
-            Instruction::Nop { n } => format!("nop,{n}"),
-            Instruction::Stop => "stop".to_string(),
-        };
-        text.push_str(&format!("{},{line}\n", i + 1));
-    }
-    text.into_bytes()
-}
 
 /// The constants that a flow draws from: few different ones, so that they meet.
 fn palette(rng: &mut Rng, variables: usize) -> Vec<i64> {
@@ -352,6 +332,22 @@ fn field_edit(rng: &mut Rng, line: &mut Vec<u8>) {
     *line = fields.join(&b',');
 }
 
+/// The fields after a word, so that a number can be put at the edge of its range: A tape, Y output, v variable, c constant, N target.
+fn shape(word: &[u8]) -> Option<&'static str> {
+    Some(match word {
+        b"read" => "AvNN",
+        b"put" => "vYN",
+        b"copy" => "vvN",
+        b"set" => "cvN",
+        b"less" => "vvNN",
+        b"over" => "cvNN",
+        b"under" => "vcNN",
+        b"nop" => "N",
+        b"stop" => "",
+        _ => return None,
+    })
+}
+
 /// A number of a line put just in or just out of its range, or badly written as its kind of number can be.
 fn aimed_edit(rng: &mut Rng, flow: &Flow, lines: &mut [Vec<u8>]) {
     let count = flow.instructions.len();
@@ -359,7 +355,7 @@ fn aimed_edit(rng: &mut Rng, flow: &Flow, lines: &mut [Vec<u8>]) {
     let mut fields: Vec<Vec<u8>> = lines[at].split(|b| *b == b',').map(|f| f.to_vec()).collect();
     let i = rng.below(fields.len());
     let about = |rng: &mut Rng, n: usize| (*rng.pick(&[0, 1, n.max(1) - 1, n, n + 1])).to_string();
-    let letters = fields.get(1).and_then(|word| reader::shape(word)).unwrap_or("");
+    let letters = fields.get(1).and_then(|word| shape(word)).unwrap_or("");
     let number = match (at, i) {
         (0, 0) | (1.., 1) => return,
         (0, 1 | 2) => about(rng, 3),
@@ -382,7 +378,7 @@ fn aimed_edit(rng: &mut Rng, flow: &Flow, lines: &mut [Vec<u8>]) {
 /// A legal flow with one aimed edit or two.
 fn aimed(rng: &mut Rng) -> Vec<u8> {
     let flow = flow(rng);
-    let mut lines: Vec<Vec<u8>> = text_of(&flow).split(|b| *b == 10).map(|l| l.to_vec()).collect();
+    let mut lines: Vec<Vec<u8>> = flow.text().split('\n').map(|l| l.as_bytes().to_vec()).collect();
     for _ in 0..1 + rng.below(2) {
         aimed_edit(rng, &flow, &mut lines);
     }
@@ -437,7 +433,7 @@ pub fn damaged(rng: &mut Rng) -> Vec<u8> {
     if rng.percent(40) {
         return aimed(rng);
     }
-    let mut text = text_of(&flow(rng));
+    let mut text = flow(rng).text().into_bytes();
     match rng.below(24) {
         0 => return many_lines(rng),
         1 => return long_text(rng, text),

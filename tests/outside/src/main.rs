@@ -2,21 +2,21 @@
 //!
 //!     outside [SEED [ROUNDS]]
 //!
-//! The implementation (reader.rs, interpreter.rs, search.rs) is written from documents 01 and 000 and shares no code with the crates.
-//! Prints the seed, the cases by sort and outcome, and `N cases, M differences`. A difference is printed with its case in full, and the
-//! status is then 1; it is 1 too if an outcome that document 01 knows was never met.
+//! The implementation (documents/) is written from documents 01 and 000 alone. Some of the texts go to the program `report` too, if its path
+//! is in REPORT. Prints the seed, the cases by sort and outcome, and `N cases, M differences`. A difference is printed with its case in
+//! full, and the status is then 1; it is 1 too if an outcome that document 01 knows was never met.
 
 mod cases;
+mod documents;
 mod ffi;
 mod gen;
-mod interpreter;
 mod lent;
-mod reader;
+mod program;
 mod rng;
-mod search;
 
 use cases::{Checked, Known, RunCase, SampleCase, TapeCase, Work};
-use reader::Flow;
+use documents::flow::Flow;
+use documents::{pieces, reader, search};
 use rng::Rng;
 use std::collections::BTreeMap;
 use std::fmt::Debug;
@@ -25,9 +25,10 @@ use std::process::ExitCode;
 const MOST: usize = 65_536;
 
 /// The outcomes that must be met, beside the refusals of the text.
-const OUTCOMES: [(&str, &[&str]); 4] = [
+const OUTCOMES: [(&str, &[&str]); 5] = [
     ("run", &["stopped", "spent", "full", "refused 12"]),
     ("report", &["given", "refused 9"]),
+    ("program", &["given", "refused 9"]),
     ("sample", &["given", "none", "refused 9", "refused 10", "refused 11"]),
     ("tape", &["a part", "the empty part"]),
 ];
@@ -62,11 +63,11 @@ impl Tally {
         }
     }
 
-    /// The outcomes that were never met.
-    fn missing(&self) -> Vec<String> {
+    /// The outcomes that were never met, of the sorts that were tried.
+    fn missing(&self, tried: impl Fn(&str) -> bool) -> Vec<String> {
         let refusals: Vec<String> = (1..=8).map(|n| format!("refused {n}")).collect();
         let mut missing = Vec::new();
-        for (sort, outcomes) in OUTCOMES {
+        for (sort, outcomes) in OUTCOMES.into_iter().filter(|(sort, _)| tried(sort)) {
             let of_text = refusals.iter().filter(|_| sort != "tape").map(String::as_str);
             for outcome in outcomes.iter().copied().chain(of_text) {
                 if !self.by_outcome.contains_key(&(sort, outcome.to_string())) {
@@ -84,13 +85,13 @@ impl Tally {
 
 fn known(text: &[u8]) -> Known {
     let flow = reader::read(text)?;
-    let census = search::census(&flow, MOST);
+    let census = search::census(&flow, MOST).ok();
     Ok((flow, census))
 }
 
 /// Tapes for a flow, and now and then lengths that are refused.
 fn run_case(rng: &mut Rng, flow: Option<&Flow>) -> RunCase {
-    let range = flow.map_or((0, 0), |f| f.range());
+    let range = flow.map_or((0, 0), |f| f.bounds());
     let tapes = flow.map_or(1, |f| f.tapes);
     let most = if rng.percent(5) { 300 } else { 12 };
     let mut lengths: Vec<usize> = (0..tapes).map(|_| rng.below(most)).collect();
@@ -149,15 +150,15 @@ fn sample_case(rng: &mut Rng, known: &Known) -> SampleCase {
         Ok(known) => known,
     };
     let count = flow.instructions.len();
-    let two: Vec<usize> = (1..=count).filter(|i| flow.at(*i).two_exits()).collect();
+    let two: Vec<usize> = (1..=count).filter(|i| flow.has_exits(*i as u64)).collect();
     let instruction = match rng.below(20) {
         0 => *rng.pick(&[0, count as u64 + 1, 65, 1 << 32, (1 << 32) + 1, u64::MAX]),
         1 => 1 + rng.below(count) as u64,
         _ if !two.is_empty() => *rng.pick(&two) as u64,
         _ => 1,
     };
-    let fits = two.contains(&(instruction as usize)) && instruction <= count as u64;
-    let d = census.as_ref().filter(|_| fits).and_then(|c| cases::distance(flow, c, instruction, exit));
+    let column = census.as_ref().filter(|_| flow.has_exits(instruction)).map(|c| if exit { &c.p } else { &c.m });
+    let d = column.and_then(|distances| distances[instruction as usize - 1]);
     let row = match (d, rng.below(8)) {
         (None, _) => rng.below(5),
         (Some(d), 0) => d as usize - 1,
@@ -199,7 +200,7 @@ fn confirm(tally: &mut Tally, text: &[u8], known: &Known) {
     let Ok((flow, Some(census))) = known else {
         return;
     };
-    let (lo, hi) = flow.range();
+    let (lo, hi) = flow.bounds();
     let reach = i64::from(census.depth) + 1;
     let held = ((hi - lo + 1 + 2 * reach) as f64).powi(flow.variables as i32) * flow.instructions.len() as f64 * (1 << flow.tapes) as f64;
     if held > 3000.0 {
@@ -236,7 +237,7 @@ fn report_and_samples(rng: &mut Rng, tally: &mut Tally, text: &[u8], samples: us
 /// Flows of 65,535 to 65,537 configurations, with rows about as long.
 fn edges(rng: &mut Rng, tally: &mut Tally) {
     for n in 0..3 {
-        let text = gen::text_of(&gen::edge(n));
+        let text = gen::edge(n).text().into_bytes();
         let known = known(&text);
         for cells in [MOST - 2 + n, MOST - 1 + n, MOST + n, MOST + 3000] {
             let mut work = Work::new(rng, cells);
@@ -250,36 +251,20 @@ fn edges(rng: &mut Rng, tally: &mut Tally) {
     }
 }
 
-/// What document 01 says of flow A, so that the implementation is tied to the document and not to the library alone.
-fn pieces() {
-    let text = b"flow,1,0,1\n1,read,1,1,2,3\n2,over,5,1,1,3\n3,stop\n";
-    let flow = reader::read(text).expect("flow A is legal");
-    let census = search::census(&flow, 19).expect("flow A has 19 configurations");
-    assert_eq!(census.configurations, 19);
-    assert_eq!((census.p, census.m), (vec![Some(1), Some(2), None], vec![Some(1), Some(2), None]));
-    assert!(search::census(&flow, 18).is_none());
-    for (tape, steps) in [(vec![], 1), (vec![5], 2), (vec![6], 3), (vec![6, 9, 5], 6)] {
-        let ran = interpreter::run(&flow, &[tape], 1000, 0);
-        assert_eq!((ran.end, ran.steps), (interpreter::STOPPED, steps));
-    }
-    let chain = b"flow,1,0,2\n1,read,1,1,2,6\n2,read,1,2,3,6\n3,over,3,1,4,6\n4,less,1,2,5,6\n5,under,2,5,6,6\n6,stop\n";
-    let census = search::census(&reader::read(chain).expect("the chain is legal"), MOST).expect("the chain has few configurations");
-    assert_eq!((census.p[4], census.m[4]), (None, Some(5)));
-    assert_eq!(search::census(&gen::edge(0), MOST).map(|c| c.configurations), Some(65_535));
-}
-
 fn main() -> ExitCode {
     let mut args = std::env::args().skip(1).map(|a| a.parse::<u64>().expect("a number"));
     let seed = args.next().unwrap_or(20_260_101);
     let rounds = args.next().unwrap_or(16_000);
+    let program = std::env::var("REPORT").ok();
     println!("seed {seed}");
-    pieces();
+    pieces::check();
+    assert_eq!(search::census(&gen::edge(0), MOST).map(|c| c.configurations), Ok(MOST - 1));
     let rng = &mut Rng::new(seed);
     let mut tally = Tally { seed, by_outcome: BTreeMap::new(), confirmed: 0, configurations: 0, distance: 0, differences: 0 };
     edges(rng, &mut tally);
     for round in 0..rounds {
         let flow = gen::flow(rng);
-        let text = gen::text_of(&flow);
+        let text = flow.text().into_bytes();
         assert_eq!(reader::read(&text).as_ref(), Ok(&flow), "a generated flow is read back");
         for _ in 0..2 {
             let case = run_case(rng, Some(&flow));
@@ -289,7 +274,13 @@ fn main() -> ExitCode {
         if round % 2 == 0 {
             report_and_samples(rng, &mut tally, &text, 3);
         }
+        if let (0, Some(program)) = (round % 16, &program) {
+            tally.note("program", program::report(program, &text), &text, &"");
+        }
         let text = gen::damaged(rng);
+        if let (0, Some(program)) = (round % 8, &program) {
+            tally.note("program", program::report(program, &text), &text, &"");
+        }
         let case = run_case(rng, reader::read(&text).ok().as_ref());
         let checked = cases::run(rng, &text, &case);
         tally.note("run", checked, &text, &case);
@@ -305,11 +296,12 @@ fn main() -> ExitCode {
     }
     println!("searches of our own confirmed by trial of numbers: {}", tally.confirmed);
     println!("generated flows have up to {} configurations, distances up to {}", tally.configurations, tally.distance);
-    for missing in tally.missing() {
-        println!("never met: {missing}");
+    let missing = tally.missing(|sort| sort != "program" || program.is_some());
+    for outcome in &missing {
+        println!("never met: {outcome}");
     }
     println!("{} cases, {} differences", tally.cases(), tally.differences);
-    if tally.differences > 0 || !tally.missing().is_empty() {
+    if tally.differences > 0 || !missing.is_empty() {
         return ExitCode::FAILURE;
     }
     ExitCode::SUCCESS

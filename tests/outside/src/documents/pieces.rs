@@ -1,0 +1,175 @@
+//! The test pieces of document 01 ("Test pieces") and its flow A ("The report").
+
+use super::flow::{Flow, Refusal};
+use super::interpreter::{run, End, Ran};
+use super::reader::read;
+use super::report::lines;
+use super::sample::{faults, part, wanted};
+use super::search::{by_numbers, census};
+
+const FLOW_A: &str = "flow,1,0,1\n1,read,1,1,2,3\n2,over,5,1,1,3\n3,stop\n";
+const REPORT_A: &str = "report,3,19\n1,p,1\n1,m,1\n2,p,2\n2,m,2\n";
+const FLOW_B: &str = "flow,1,1,1\n1,read,1,1,2,3\n2,put,1,1,1\n3,stop\n";
+const CHAIN: &str = "flow,1,0,2\n1,read,1,1,2,6\n2,read,1,2,3,6\n3,over,3,1,4,6\n4,less,1,2,5,6\n5,under,2,5,6,6\n6,stop\n";
+const SECOND: &str = "flow,1,0,1\n1,read,1,1,3,2\n2,read,1,1,3,3\n3,stop\n";
+const UNDER: &str = "flow,1,0,1\n1,under,1,5,2,2\n2,stop\n";
+const LESS: &str = "flow,1,0,1\n1,less,1,1,2,2\n2,stop\n";
+
+fn flow(text: &str) -> Flow {
+    read(text.as_bytes()).expect("a legal text")
+}
+
+fn refused(text: &str) -> (u32, u64) {
+    let Refusal { number, place } = read(text.as_bytes()).expect_err("a text at fault");
+    (number, place)
+}
+
+fn on_one_tape(text: &str, limit: u64, records: &[i32], free: usize) -> Ran {
+    run(&flow(text), limit, records, &[records.len()], free).expect("one tape")
+}
+
+fn runs() {
+    let a = |limit, records: &[i32]| {
+        let ran = on_one_tape(FLOW_A, limit, records, 0);
+        (ran.end, ran.steps)
+    };
+    assert_eq!(a(100, &[]), (End::Stopped, 1));
+    assert_eq!(a(100, &[5]), (End::Stopped, 2));
+    assert_eq!(a(100, &[6]), (End::Stopped, 3));
+    assert_eq!(a(100, &[6, 9, 5]), (End::Stopped, 6));
+    assert_eq!(a(2, &[6]), (End::Spent, 2));
+    assert_eq!(a(3, &[6]), (End::Stopped, 3));
+    let ran = on_one_tape(FLOW_A, 100, &[6, 9, 5], 0);
+    assert_eq!((ran.p, ran.m), (vec![3, 2, 0], vec![0, 1, 0]));
+
+    let stop = on_one_tape("flow,1,0,1\n1,stop\n", 0, &[], 0);
+    assert_eq!((stop.end, stop.steps), (End::Stopped, 0));
+
+    let b = |limit, free| {
+        let ran = on_one_tape(FLOW_B, limit, &[4, -7], free);
+        (ran.end, ran.steps, ran.puts)
+    };
+    assert_eq!(b(100, 2), (End::Stopped, 5, vec![(1, 4), (1, -7)]));
+    assert_eq!(b(100, 1), (End::Full, 3, vec![(1, 4)]));
+    assert_eq!(b(3, 1), (End::Spent, 3, vec![(1, 4)]));
+
+    let endless = on_one_tape("flow,1,0,1\n1,nop,1\n", u64::MAX, &[], 0);
+    assert_eq!((endless.end, endless.steps), (End::Spent, 1_000_000));
+
+    let turned_back = Err(Refusal { number: 12, place: 0 });
+    for lengths in [&[][..], &[1], &[3], &[2, 0], &[usize::MAX, 3], &[usize::MAX]] {
+        assert_eq!(run(&flow(FLOW_A), 9, &[6, 5], lengths, 0), turned_back);
+    }
+    let two = Flow { tapes: 2, ..flow(FLOW_A) };
+    assert_eq!(run(&two, 9, &[6, 5], &[usize::MAX, 3], 0), turned_back);
+    assert!(run(&two, 9, &[6, 5], &[1, 1], 0).is_ok());
+}
+
+fn texts() {
+    let set = |c: &str| format!("flow,1,0,1\n1,set,{c},1,2\n2,stop\n");
+    for c in ["1000", "-1000", "0", "-1"] {
+        assert_eq!(flow(&set(c)).instructions[0].constant(), c.parse().ok());
+    }
+    let long = "9".repeat(500);
+    for c in ["1001", "-1001", &long, &format!("-{long}")] {
+        assert_eq!(refused(&set(c)), (5, 2));
+    }
+    for c in ["-0", "", "-", "--1", "+1", "01", "-01", "00", "1 ", "1.0", "x"] {
+        assert_eq!(refused(&set(c)), (4, 2));
+    }
+    let nops = |count: usize| (1..=count).fold("flow,1,0,1\n".to_string(), |text, i| text + &format!("{i},nop,1\n"));
+    assert_eq!(flow(&nops(64)).instructions.len(), 64);
+    for (text, refusal) in [
+        ("".to_string(), (2, 0)),
+        ("flow,1,0,1".to_string(), (3, 0)),
+        ("x".repeat(4097), (1, 0)),
+        ("x".repeat(4096), (3, 0)),
+        ("x".repeat(4095) + "\n", (4, 1)),
+        ("\n".to_string(), (4, 1)),
+        ("flow,1,0,1\n".to_string(), (8, 2)),
+        ("flow,0,0,1\n".to_string(), (5, 1)),
+        ("flow,4,0,x\n1,stop\n".to_string(), (4, 1)),
+        ("flow,1,4,1\n1,stop\n".to_string(), (5, 1)),
+        ("flow,1,0,5\n1,stop\n".to_string(), (5, 1)),
+        ("flow,-1,0,1\n1,stop\n".to_string(), (4, 1)),
+        ("flow,1,0,1\n\n".to_string(), (4, 2)),
+        ("flow,1,0,1\n1,halt\n".to_string(), (4, 2)),
+        ("flow,1,0,1\n1,stop,1\n".to_string(), (4, 2)),
+        ("flow,1,0,1\n2,stop\n".to_string(), (6, 2)),
+        (format!("flow,1,0,1\n{long},stop\n"), (6, 2)),
+        ("flow,1,0,1\n2,read,2,1,1,1\n".to_string(), (6, 2)),
+        ("flow,1,0,1\n2,read,2,1,1,01\n".to_string(), (4, 2)),
+        ("flow,1,0,1\n1,read,2,1,1,1\n".to_string(), (5, 2)),
+        ("flow,1,0,1\n1,put,1,1,1\n".to_string(), (5, 2)),
+        ("flow,1,0,1\n1,nop,2\n2,copy,1,2,1\n".to_string(), (5, 3)),
+        ("flow,1,0,1\n1,nop,1\n2,nop,0\n3,nop,4\n".to_string(), (7, 3)),
+        (format!("flow,1,0,1\n1,nop,1\n2,nop,{long}\n"), (7, 3)),
+        ("flow,1,0,1\n1,nop,9\n2,stop,1\n".to_string(), (4, 3)),
+        (nops(65), (8, 66)),
+        (nops(64) + "halt\n", (8, 66)),
+        (nops(63) + "halt\n65,stop\n", (4, 65)),
+    ] {
+        assert_eq!(refused(&text), refusal, "{text}");
+    }
+}
+
+fn reports() {
+    assert_eq!(lines(FLOW_A.as_bytes(), 4096), REPORT_A);
+    assert_eq!(lines(FLOW_A.as_bytes(), 19), REPORT_A);
+    assert_eq!(lines(FLOW_A.as_bytes(), 18), "refused,9,0\n");
+    assert_eq!(lines(FLOW_A.as_bytes(), 0), "refused,9,0\n");
+    assert_eq!(lines(b"flow,1,0,1\n2,stop\n", 4096), "refused,6,2\n");
+    assert!(lines(CHAIN.as_bytes(), 4096).ends_with("\n5,p,none\n5,m,5\n"));
+    assert_eq!(lines(SECOND.as_bytes(), 4096), "report,3,6\n1,p,1\n1,m,1\n2,p,none\n2,m,2\n");
+    assert_eq!(lines(UNDER.as_bytes(), 4096), "report,2,2\n1,p,1\n1,m,none\n");
+    assert_eq!(lines(LESS.as_bytes(), 4096), "report,2,2\n1,p,none\n1,m,1\n");
+    for text in [FLOW_A, FLOW_B, CHAIN, SECOND, UNDER, LESS] {
+        let flow = flow(text);
+        assert_eq!(flow.text(), text);
+        let census = census(&flow, 4096).expect("few configurations");
+        assert_eq!(by_numbers(&flow, i64::from(census.depth) + 1), census);
+    }
+}
+
+fn samples() {
+    let refuse = |number| Err(Refusal { number, place: 0 });
+    let chain = flow(CHAIN);
+    let found = census(&chain, 4096).expect("few configurations");
+    let few = Refusal { number: 9, place: 0 };
+    assert_eq!(wanted(&chain, 5, false, Ok(&found), 5), Ok(Some(5)));
+    assert_eq!(wanted(&chain, 5, false, Ok(&found), 4), refuse(10));
+    assert_eq!(wanted(&chain, 5, true, Ok(&found), 0), Ok(None));
+    assert_eq!(wanted(&chain, 5, true, Err(few), 0), refuse(9));
+    for none in [0, 6, 7, u64::MAX] {
+        assert_eq!(wanted(&chain, none, true, Err(few), 0), refuse(11));
+    }
+    assert!(faults(&chain, 5, false, 5, &[4, 5, 0, 0, 0], &[2]).is_empty());
+    assert!(faults(&chain, 5, false, 5, &[4, 5, 0, 0, 0], &[2, 0, 0]).is_empty());
+    for (d, row, lengths) in [
+        (5, &[4, 5, 0, 0, 0][..], &[3][..]),
+        (5, &[4, 5, 0, 0, 0], &[1]),
+        (5, &[4, 5, 0, 0, 0], &[6]),
+        (5, &[4, 5, 0, 0, 0], &[2, 1]),
+        (5, &[4, 5, 0, 0, 0], &[]),
+        (5, &[4, 5], &[2]),
+        (5, &[4, 4, 0, 0, 0], &[2]),
+        (5, &[4, 11, 0, 0, 0], &[2]),
+        (4, &[4, 5, 0, 0, 0], &[2]),
+        (6, &[4, 5, 0, 0, 0, 0], &[2]),
+    ] {
+        assert_eq!(faults(&chain, 5, false, d, row, lengths).len(), 1);
+    }
+    assert_eq!([1, 2, 3].map(|tape| part(7, &[2, 0, 3], tape)), [(0, 2), (2, 0), (2, 3)]);
+    assert_eq!([0, 4, usize::MAX].map(|tape| part(7, &[2, 0, 3], tape)), [(0, 0); 3]);
+    assert_eq!(part(5, &[2, 0, 3], 3), (2, 3));
+    assert_eq!(part(4, &[2, 0, 3], 1), (0, 0));
+    assert_eq!(part(7, &[2, usize::MAX, 3], 1), (0, 0));
+}
+
+/// Asserts the pieces, and some that the words of document 01 settle directly.
+pub fn check() {
+    runs();
+    texts();
+    reports();
+    samples();
+}

@@ -1,0 +1,273 @@
+//! The search for all reachable configurations: document 01, "Distances and configurations".
+
+use super::flow::{Flow, Instruction, Refusal};
+use std::collections::HashSet;
+use std::hash::{BuildHasherDefault, Hasher};
+
+/// More cells than these do not count.
+const CELLS: usize = 65_536;
+
+/// The reachable configurations, the distances of exit p and exit m of instruction i at i - 1 (None for none, and for an
+/// instruction without two exits), and the greatest number of steps that a configuration takes to be arrived at.
+#[derive(Clone, Debug, PartialEq, Eq)]
+pub struct Census {
+    pub configurations: usize,
+    pub p: Vec<Option<u32>>,
+    pub m: Vec<Option<u32>>,
+    pub depth: u32,
+}
+
+impl Census {
+    fn new(flow: &Flow) -> Census {
+        let none = vec![None; flow.instructions.len()];
+        Census { configurations: 0, p: none.clone(), m: none, depth: 0 }
+    }
+
+    /// Exit p or m of instruction `at` is taken with `distance` steps; the first taking counts. Gives that exit's target.
+    fn take(&mut self, at: usize, (p, m): (usize, usize), exit_p: bool, distance: u32) -> usize {
+        let exit = if exit_p { &mut self.p[at - 1] } else { &mut self.m[at - 1] };
+        exit.get_or_insert(distance);
+        if exit_p {
+            p
+        } else {
+            m
+        }
+    }
+}
+
+/// A hasher for one packed word.
+#[derive(Default)]
+struct Mix(u64);
+
+impl Hasher for Mix {
+    fn finish(&self) -> u64 {
+        self.0
+    }
+
+    fn write(&mut self, bytes: &[u8]) {
+        bytes.iter().for_each(|&byte| self.write_u64(u64::from(byte)));
+    }
+
+    fn write_u64(&mut self, word: u64) {
+        let mixed = u128::from(self.0 ^ word) * 0x9E37_79B9_7F4A_7C15;
+        self.0 = mixed as u64 ^ (mixed >> 64) as u64;
+    }
+}
+
+type Words = HashSet<u64, BuildHasherDefault<Mix>>;
+
+/// A pattern: a value from C1 to C2 stands for itself, C2 + r for rank r above C2, C1 - r for rank r below C1. The numbers of a
+/// pattern lie in the order of the values that it stands for. Variables past V stay 0, which lies inside.
+type Pattern = [i16; 4];
+
+/// The greatest rank, and the bits of one number of a pattern: C2 + 4 less C1 - 4 is at most 2008.
+const RANKS: i16 = 4;
+const BITS: u32 = 11;
+
+struct Search {
+    low: i16,
+    high: i16,
+    room: usize,
+    /// The configurations in the order of their arrival, and the same as a set.
+    found: Vec<u64>,
+    seen: Words,
+    /// Where reads have led already: target, variable, tapes ended and the pattern of the other variables.
+    fans: Words,
+}
+
+impl Search {
+    fn pack(&self, at: usize, ended: u8, pattern: Pattern) -> u64 {
+        let first = (at as u64) << 3 | u64::from(ended);
+        pattern.iter().fold(first, |word, &x| word << BITS | (x - self.low + RANKS) as u64)
+    }
+
+    fn unpack(&self, mut word: u64) -> (usize, u8, Pattern) {
+        let mut pattern = [0; 4];
+        for x in pattern.iter_mut().rev() {
+            *x = (word & ((1 << BITS) - 1)) as i16 + self.low - RANKS;
+            word >>= BITS;
+        }
+        ((word >> 3) as usize, (word & 7) as u8, pattern)
+    }
+
+    /// Arrival at a configuration. Refusal 9 if it is new and no cell is left for it.
+    fn arrive(&mut self, at: usize, ended: u8, pattern: Pattern) -> Result<(), Refusal> {
+        let word = self.pack(at, ended, pattern);
+        if self.seen.insert(word) {
+            if self.found.len() == self.room {
+                return Err(Refusal { number: 9, place: 0 });
+            }
+            self.found.push(word);
+        }
+        Ok(())
+    }
+
+    /// The pattern of the other variables when the value of `v` is given up: `v` goes to 0, and where it alone held a rank, the
+    /// ranks farther out move in by one.
+    fn without(&self, mut pattern: Pattern, v: usize) -> Pattern {
+        let old = std::mem::replace(&mut pattern[v - 1], 0);
+        if (self.low..=self.high).contains(&old) || pattern.contains(&old) {
+            return pattern;
+        }
+        for x in &mut pattern {
+            if old > self.high && *x > old {
+                *x -= 1;
+            } else if old < self.low && *x < old {
+                *x += 1;
+            }
+        }
+        pattern
+    }
+
+    /// All configurations to which the read of a record to `v` may lead, `others` being the pattern without `v`. Records may be
+    /// of any size, so the values held outside C1 to C2 can lie as far apart as a later record needs: besides every whole number
+    /// from C1 to C2 the record may share any rank held, or take a new rank before, between or beyond those held.
+    fn fan(&mut self, at: usize, ended: u8, others: Pattern, v: usize) -> Result<(), Refusal> {
+        let key = self.pack(at, ended, others) | (v as u64) << 60;
+        if !self.fans.insert(key) {
+            return Ok(());
+        }
+        let (low, high) = (self.low, self.high);
+        let (least, greatest) = others.iter().fold((low, high), |(least, greatest), &x| (least.min(x), greatest.max(x)));
+        for record in least..=greatest {
+            let mut pattern = others;
+            pattern[v - 1] = record;
+            self.arrive(at, ended, pattern)?;
+        }
+        for record in high + 1..=greatest + 1 {
+            let mut pattern = others.map(|x| if x >= record { x + 1 } else { x });
+            pattern[v - 1] = record;
+            self.arrive(at, ended, pattern)?;
+        }
+        for record in least - 1..low {
+            let mut pattern = others.map(|x| if x <= record { x - 1 } else { x });
+            pattern[v - 1] = record;
+            self.arrive(at, ended, pattern)?;
+        }
+        Ok(())
+    }
+
+    /// The step out of a configuration, with which `distance` steps are done. What can follow depends on the configuration
+    /// alone; where a read of a record leads does not depend on the value that its variable had.
+    fn step(&mut self, flow: &Flow, word: u64, distance: u32, census: &mut Census) -> Result<(), Refusal> {
+        let (at, ended, pattern) = self.unpack(word);
+        let mut compare = |holds: bool, p: usize, m: usize| census.take(at, (p, m), holds, distance);
+        match flow.instructions[at - 1] {
+            Instruction::Read { tape, v, p, m } => {
+                let bit = 1 << (tape - 1);
+                if ended & bit == 0 {
+                    let target = compare(true, p, m);
+                    self.fan(target, ended, self.without(pattern, v), v)?;
+                }
+                let target = compare(false, p, m);
+                self.arrive(target, ended | bit, pattern)
+            }
+            Instruction::Put { n, .. } | Instruction::Nop { n } => self.arrive(n, ended, pattern),
+            Instruction::Copy { u, v, n } if u == v => self.arrive(n, ended, pattern),
+            Instruction::Copy { u, v, n } => {
+                let mut after = self.without(pattern, v);
+                after[v - 1] = after[u - 1];
+                self.arrive(n, ended, after)
+            }
+            Instruction::Set { c, v, n } => {
+                let mut after = self.without(pattern, v);
+                after[v - 1] = c as i16;
+                self.arrive(n, ended, after)
+            }
+            Instruction::Less { u, v, p, m } => self.arrive(compare(pattern[u - 1] < pattern[v - 1], p, m), ended, pattern),
+            Instruction::Over { c, v, p, m } => self.arrive(compare((c as i16) < pattern[v - 1], p, m), ended, pattern),
+            Instruction::Under { v, c, p, m } => self.arrive(compare(pattern[v - 1] < c as i16, p, m), ended, pattern),
+            Instruction::Stop => Ok(()),
+        }
+    }
+}
+
+/// All reachable configurations, breadth first, or refusal 9 if they outnumber the cells.
+pub fn census(flow: &Flow, cells: usize) -> Result<Census, Refusal> {
+    let (low, high) = flow.bounds();
+    let (found, seen, fans) = (Vec::new(), Words::default(), Words::default());
+    let mut search = Search { low: low as i16, high: high as i16, room: cells.min(CELLS), found, seen, fans };
+    let mut census = Census::new(flow);
+    search.arrive(1, 0, [0; 4])?;
+    let (mut next, mut level) = (0, 1);
+    while next < search.found.len() {
+        if next == level {
+            census.depth += 1;
+            level = search.found.len();
+        }
+        search.step(flow, search.found[next], census.depth + 1, &mut census)?;
+        next += 1;
+    }
+    census.configurations = search.found.len();
+    Ok(census)
+}
+
+/// The pattern of actual numbers, by the words of document 01: for each variable its side (-1 below C1, 0 inside, 1 above C2) and
+/// its rank counted from the nearest, or inside the value itself.
+fn pattern_of(values: &[i64], low: i64, high: i64) -> Vec<(i8, i64)> {
+    let ranked = |mut side: Vec<i64>, x: i64| {
+        side.sort_unstable();
+        side.dedup();
+        side.iter().filter(|&&y| y <= x).count() as i64
+    };
+    let place = |&x: &i64| match x {
+        x if x > high => (1, ranked(values.iter().filter(|&&y| y > high).map(|&y| y - high).collect(), x - high)),
+        x if x < low => (-1, ranked(values.iter().filter(|&&y| y < low).map(|&y| low - y).collect(), low - x)),
+        x => (0, x),
+    };
+    values.iter().map(place).collect()
+}
+
+/// A second search, for small flows, that knows no patterns: its states are an instruction, the tapes ended and actual numbers,
+/// and every read tries every whole number from C1 - reach to C2 + reach. The configurations are counted at the end.
+pub fn by_numbers(flow: &Flow, reach: i64) -> Census {
+    type State = (usize, u8, Vec<i64>);
+    let (low, high) = flow.bounds();
+    let trials = low - reach..=high + reach;
+    let width = (high - low + 2 * reach + 1) as usize;
+    let place = |(at, ended, held): &State| held.iter().fold(at * 8 + *ended as usize, |i, &x| i * width + (x - low + reach) as usize);
+    let mut seen = vec![false; (flow.instructions.len() + 1) * 8 * width.pow(flow.variables as u32)];
+    let mut census = Census::new(flow);
+    let mut configurations = HashSet::new();
+    let mut level: Vec<State> = vec![(1, 0, vec![0; flow.variables])];
+    seen[place(&level[0])] = true;
+    let mut steps = 0;
+    while !level.is_empty() {
+        let mut following: Vec<State> = Vec::new();
+        for (at, ended, held) in &level {
+            if configurations.insert((*at, *ended, pattern_of(held, low, high))) {
+                census.depth = steps;
+            }
+            let mut go = |at: usize, ended: u8, change: Option<(usize, i64)>| {
+                let mut state = (at, ended, held.clone());
+                if let Some((v, x)) = change {
+                    state.2[v - 1] = x;
+                }
+                if !std::mem::replace(&mut seen[place(&state)], true) {
+                    following.push(state);
+                }
+            };
+            let mut take = |p, m, exit_p| census.take(*at, (p, m), exit_p, steps + 1);
+            match flow.instructions[at - 1] {
+                Instruction::Read { tape, v, p, m } => {
+                    if *ended >> (tape - 1) & 1 == 0 {
+                        take(p, m, true);
+                        trials.clone().for_each(|record| go(p, *ended, Some((v, record))));
+                    }
+                    go(take(p, m, false), *ended | 1 << (tape - 1), None);
+                }
+                Instruction::Put { n, .. } | Instruction::Nop { n } => go(n, *ended, None),
+                Instruction::Copy { u, v, n } => go(n, *ended, Some((v, held[u - 1]))),
+                Instruction::Set { c, v, n } => go(n, *ended, Some((v, c))),
+                Instruction::Less { u, v, p, m } => go(take(p, m, held[u - 1] < held[v - 1]), *ended, None),
+                Instruction::Over { c, v, p, m } => go(take(p, m, c < held[v - 1]), *ended, None),
+                Instruction::Under { v, c, p, m } => go(take(p, m, held[v - 1] < c), *ended, None),
+                Instruction::Stop => {}
+            }
+        }
+        level = following;
+        steps += 1;
+    }
+    census.configurations = configurations.len();
+    census
+}
