@@ -39,34 +39,31 @@ fn print_pair(x: u8, y: u8) {
     print_number(y as u64);
 }
 
+// A word and three fields that are numbers.
+fn print_three(word: &[u8], x: u8, y: u8, z: u8) {
+    print_word(word);
+    print_pair(x, y);
+    print_number(z as u64);
+}
+
 // The fields of an instruction after its number.
 fn print_instruction(x: Instruction) {
     let kind = x.kind;
     match kind {
         Kind::Read => {
-            print_word(b"read");
-            print_pair(x.a, x.v);
-            print_pair(x.p, x.m);
+            print_three(b"read", x.a, x.v, x.p);
+            print_number(x.m as u64);
         }
-        Kind::Put => {
-            print_word(b"put");
-            print_pair(x.v, x.a);
-            print_number(x.p as u64);
-        }
-        Kind::Copy => {
-            print_word(b"copy");
-            print_pair(x.a, x.v);
-            print_number(x.p as u64);
-        }
+        Kind::Put => print_three(b"put", x.v, x.a, x.p),
+        Kind::Copy => print_three(b"copy", x.a, x.v, x.p),
         Kind::Set => {
             print_word(b"set");
             print_constant(x.c);
             print_pair(x.v, x.p);
         }
         Kind::Less => {
-            print_word(b"less");
-            print_pair(x.a, x.v);
-            print_pair(x.p, x.m);
+            print_three(b"less", x.a, x.v, x.p);
+            print_number(x.m as u64);
         }
         Kind::Over => {
             print_word(b"over");
