@@ -1,6 +1,6 @@
 // The flows of a data file, one after another: a line with a name, the lines of the text, and an empty line.
-ghost use Prim.Native.Nat.{_≤_};
-ghost use lib.ListN.{length};
+ghost use mathlib.Core.Path.{_≡_};
+ghost use Rattle.cases.specs.Cases.{lineEnd, textStart, emptyLine, nextCase, Ordered};
 
 // Where the case that starts at a place has the end of its name, and the start and the end of its text.
 pub struct Case {
@@ -9,38 +9,50 @@ pub struct Case {
     pub end: usize,
 }
 
-// Where the first empty line from `from` on stands, or the file's length where there is none.
-fn empty_line(file: &[u8], from: usize) -> usize
-    requires { ⌜ from ≤ length (now file) ⌝ }
-    ensures { λ r. ⌜ (from ≤ r) × (r ≤ length (now (file .entry))) ⌝ }
+// Where the line at a place ends, at its byte 10 or with the file.
+fn line_end(file: &[u8], at: usize) -> usize
+    ensures { λ r. ⌜ r ≡ lineEnd (now (file .entry)) at ⌝ }
 {
-    let mut at = from;
-    while at < file.len() {
-        let end = text::end_of(file, at, b'\n');
-        if end == at {
-            return at;
-        }
-        if end == file.len() {
-            return end;
-        }
-        at = end + 1;
+    if at <= file.len() {
+        return text::end_of(file, at, b'\n');
     }
     at
 }
 
-pub fn next(file: &[u8], at: usize) -> Case
-    requires { ⌜ at ≤ length (now file) ⌝ }
-    ensures { λ r. ⌜ (at ≤ r .named) × (r .named ≤ r .start) × (r .start ≤ r .end) × (r .end ≤ length (now (file .entry))) ⌝ }
+// Where the text behind a name that ends at a place starts.
+fn text_start(file: &[u8], at: usize) -> usize
+    ensures { λ r. ⌜ r ≡ textStart (now (file .entry)) at ⌝ }
 {
-    let named = text::end_of(file, at, b'\n');
-    if named == file.len() {
-        return Case {
-            named,
-            start: named,
-            end: named,
-        };
+    if at < file.len() {
+        return at + 1;
     }
-    let start = named + 1;
+    at
+}
+
+// Where the first empty line from `from` on stands, or the file's end; a line starts at `from`.
+fn empty_line(file: &[u8], from: usize) -> usize
+    ensures { λ r. ⌜ r ≡ emptyLine (now (file .entry)) from ⌝ }
+{
+    let mut at = from;
+    let mut opens = true;
+    while at < file.len() {
+        let ends = file[at] == b'\n';
+        if opens & ends {
+            return at;
+        }
+        opens = ends;
+        at += 1;
+    }
+    at
+}
+
+// The case at a place of the file.
+pub fn next(file: &[u8], at: usize) -> Case
+    ensures { λ r. ⌜ r ≡ nextCase (now (file .entry)) at ⌝ }
+    ensures { λ r. ⌜ Ordered (now (file .entry)) at r ⌝ }
+{
+    let named = line_end(file, at);
+    let start = text_start(file, named);
     Case {
         named,
         start,

@@ -1,9 +1,8 @@
-// What the programs print on standard output: bytes, numbers, a refusal, and a report in the words of document 01 ("The report").
-use flow::Flow;
+// What the test programs print on standard output, piece by piece. These functions return nothing and lend nothing, so a contract has
+// nothing to speak of. The program `report` calls none of them: it prints the row of `render::report_of`, which is proved.
 use flow::Refusal;
 use libc::STDOUT_FILENO;
 use tape_maker::ReportAnswer;
-use tape_maker::ReportEnd;
 
 pub fn print(bytes: &[u8]) {
     io::write_all(STDOUT_FILENO, bytes);
@@ -35,65 +34,15 @@ pub fn exit(i: usize, p: bool) {
     print(b",m");
 }
 
-// The line of an exit with its distance, 0 for none.
-fn distance(i: usize, p: bool, d: u32) {
-    exit(i, p);
-    if d == 0 {
-        print(b",none\n");
-        return;
-    }
-    field(d as u64);
-    print(b"\n");
-}
-
-fn distances(r: ReportAnswer) {
-    let two = r.two;
-    let p = r.p;
-    let m = r.m;
-    let mut i = 0;
-    while i < Flow::MAX_INSTRUCTIONS {
-        if two[i] {
-            distance(i + 1, true, p[i]);
-            distance(i + 1, false, m[i]);
-        }
-        i += 1;
-    }
-}
-
 pub fn report(r: ReportAnswer) {
-    let end = r.end;
-    match end {
-        ReportEnd::Given => {
-            print(b"report");
-            field(r.instructions as u64);
-            field(r.configurations as u64);
-            print(b"\n");
-            distances(r);
-        }
-        ReportEnd::Refused(why) => {
-            refusal(why);
-            print(b"\n");
-        }
-    }
+    let mut lines = [0u8; render::MAX_BYTES];
+    let n = render::report_text(r, &mut lines);
+    print(&lines[0..n]);
 }
 
 // The report of a flow, with 4,096 cells lent.
 pub fn report_of(text: &[u8]) {
-    let mut places = [0u64; 4096];
-    let mut patterns = [0u64; 4096];
-    let mut distances = [0u32; 4096];
-    let mut parents = [0u32; 4096];
-    let mut heads = [0u32; 4096];
-    let mut nexts = [0u32; 4096];
-    let mut fans = [0u8; 4096];
-    report(tape_maker::report(
-        text,
-        &mut places,
-        &mut patterns,
-        &mut distances,
-        &mut parents,
-        &mut heads,
-        &mut nexts,
-        &mut fans,
-    ));
+    let mut lines = [0u8; render::MAX_BYTES];
+    let n = render::report_of(text, &mut lines);
+    print(&lines[0..n]);
 }

@@ -1,15 +1,39 @@
--- `cases::empty_line` goes on from line to line: each starts past the one before, and within the file.
-use Prim.Native.Nat.{_-_, _≤_}
-use lib.ListN.{length}
+-- `cases::empty_line` meets its contract: the first empty line is the same from each place that the loop reaches.
+use mathlib.Core.Path.{_≡_, refl}
+use Prim.Native.Nat.{_+_, _-_}
+use native.Mathlib.Omega.{arith}
 use borrow.Author.Needs.{needs}
+use denote.Ref.{now}
+use lib.ListN.{length, drop}
+use Rattle.cases.specs.Cases.{beforeEmpty, emptyLine}
+use Rattle.cases.proofs.Laws.{empty-here, empty-further, empty-end}
 use Rattle.cases.proofs.empty_line.Statement.{statement}
 use Rattle.cases.proofs.empty_line.Tie as tie
 
 abbrev Inv-loop : tie.InvT-loop
-Inv-loop file from at₀ at = (from ≤ at) × (at ≤ length file)
+Inv-loop file from at₀ opens₀ at opens = at + beforeEmpty opens (drop at file) ≡ emptyLine file from
 
 abbrev μ-loop : tie.MeasureT-loop
-μ-loop file from at₀ at = length file - at
+μ-loop file from at₀ opens₀ at opens = length file - at
+
+returns : tie.Need-returns Inv-loop μ-loop
+returns c =
+    let turn = c .before .before .before in
+    let file = now (turn .before .args .file) in
+    let l = turn .loop in
+    omega (arith, empty-here file (l .opens) (l .at) (omega arith) (c .if1 .taken))
+
+loop-again : tie.Need-loop-again Inv-loop μ-loop
+loop-again c =
+    let turn = c .before .before .before in
+    let file = now (turn .before .args .file) in
+    let l = turn .loop in
+    omega (arith, empty-further file (l .opens) (l .at) (omega arith) (c .if1 .left))
+
+returns-2 : tie.Need-returns-2 Inv-loop μ-loop
+returns-2 c =
+    let l = c .before .loop in
+    omega (arith, empty-end (now (c .before .before .args .file)) (l .opens) (l .at) (omega arith))
 
 pub empty-line-spec : {M : Type 1} → statement M
 empty-line-spec =
@@ -17,11 +41,10 @@ empty-line-spec =
     (tie.spec
     Inv-loop
     μ-loop
+    (λ c. refl)
     (λ c. search needs)
-    (λ c κs. search needs)
-    (λ c. search needs)
-    (λ c. search needs)
-    (λ c. search needs)
+    returns
     (λ c. search needs)
     (λ c. search needs)
-    (λ c. search needs))
+    loop-again
+    returns-2)
