@@ -15,8 +15,8 @@ LINKED = $(RUSTC) --edition 2021 -C opt-level=3 -L native=target/staticlib -l st
 
 # Only what is proved is built, so the first time takes some minutes.
 define proved
-@$(1) > target.log 2>&1 || { cat target.log; rm -f target.log; exit 1; }
-@rm -f target.log
+@mkdir -p target
+@$(1) > target/make.log 2>&1 || { cat target/make.log; exit 1; }
 endef
 
 report: program

@@ -1,4 +1,4 @@
-/* Tilsando, the tape maker for invoice flows. Link libtilsando.a (make lib).
+/* Tilsando, the tape maker for invoice flows. Link libtilsando.a (make lib). docs/FLOWS.md says what a flow is, with T, N, P and M.
  *
  * Every function answers for every text, number and row. It keeps no state, takes no memory and prints nothing. A row is a pointer to
  * its first cell and the number of its cells. The caller owns every row and lends it for the length of the call. A `const` row is only
@@ -36,7 +36,8 @@ extern "C" {
 #define TILSANDO_INSTRUCTIONS 64
 #define TILSANDO_CELLS 65536
 
-/* How a run ended: answer[1] of tilsando_run. */
+/* How a run ended: answer[1] of tilsando_run. Before each step is looked at, in this order: the next instruction is `stop`, which is no
+ * step (STOPPED); the limit is used (SPENT); a put has no free cell (FULL), and is not done. */
 #define TILSANDO_REFUSED 0
 #define TILSANDO_STOPPED 1
 #define TILSANDO_SPENT 2
@@ -67,7 +68,7 @@ uint32_t tilsando_report(const uint8_t *text, size_t text_len,
     uint8_t *two, size_t two_len, uint32_t *p, size_t p_len, uint32_t *m, size_t m_len,
     uint64_t *answer, size_t answer_len);
 
-/* Writes a sample for one exit: tapes whose run takes it after as many steps as its distance, and which hold only the records read up to
+/* Writes a sample for one exit: tapes whose run takes it with as many steps as its distance, and which hold only the records read up to
  * there.
  *   instruction     the instruction, counted from 1
  *   exit            0 for exit m, any other value for exit p

@@ -1,9 +1,9 @@
 pub mod RowLaws
 pub mod SignedLaws
 pub mod ClampLaws
+pub mod ReadLaws
 pub mod LineLaws
 pub mod HeadLaws
-pub mod ReadLaws
 pub mod FlowLaws
 pub mod LegalLaws
 pub mod WriteLineLaws

@@ -1,6 +1,6 @@
 -- The instruction lines, as the code's two loops read them. The inner loop reads the numbers after a word one by one, capped: what is read,
--- in front of what the definition says of the rest, is what it says of all. What a line is read as follows from what the code finds,
--- test by test. The outer loop keeps rows: those kept, in front of what the definition says of the lines behind, are the answer.
+-- in front of what the definition says of the rest, is what it says of all. A line is read in three steps, before its numbers, its numbers,
+-- behind them, whose checks are those of the definition. The outer loop keeps rows: those kept, in front of what the definition says of the lines behind, are the answer.
 use mathlib.Core.Path.{_≡_, refl, sym, ap, _∙_}
 use mathlib.Core.Bool.{Bool, true, false, cond}
 use mathlib.Core.List.{List, [], _∷_, _++_, map, append-nil, append-assoc}
@@ -9,8 +9,8 @@ use Prim.Native.Nat.{ℕ, suc, _+_, _-_, _≤_, _<_, min}
 use native.Mathlib.Omega.{arith}
 use native.Mathlib.Numerals.{add-one}
 use native.Mathlib.Decide.{decLe}
-use borrow.Author.Tests.{eq-eqb, ne-eqb, eqb-true, le-leb, lt-leb, lt-ltb}
-use lib.Dec.{eqb}
+use borrow.Author.Tests.{eq-eqb, ne-eqb, eqb-true, le-leb, lt-leb, leb-true, lt-ltb}
+use lib.Dec.{eqb, leb}
 use lib.IntN.{ℤ, pos, negsuc, natAbs}
 use lib.ListN.{length, getD, take, drop, set, replicate, drop-of-length-le, List·getD-map}
 use lib.Seq.{drop-cons, drop-drop, take-suc-set, drop-set-lt, getD-take}
@@ -19,21 +19,25 @@ use Rattle.text.specs.Split.{lines, fields as split, until}
 use Rattle.text.specs.Number.{numeral, natural, digitsAfter}
 use Rattle.text.specs.Capped.{cap, capped, numberOf}
 use Rattle.text.specs.declared.Number.the-variants.{Value, Bad}
-use Rattle.text.proofs.Cap.{number-value, number-bad}
+use Rattle.text.proofs.Cap.{number-value, number-bad, test-cut}
 use Rattle.text.proofs.Parts.{lines-at, lines-at-end}
 use Rattle.text.proofs.Decimal.{none-no-some}
+use Rattle.flow.specs.Limits.{maxInstructions}
 use Rattle.flow.specs.Words.{kindOf, constantAt, built}
-use Rattle.flow.specs.Read.{Checked, ok, fault, check, after, inRange, all, joined, numerals, readLine, readLines}
-use Rattle.flow.specs.Code.{rowOf, instructionOf}
+use Rattle.flow.specs.Read.{Checked, ok, fault, check, given, after, inRange, all, joined, numerals, readLine, readLines}
+use Rattle.flow.specs.Code.{rowOf}
 use Rattle.flow.specs.Inner.{small, bounded, clamp, kept, HeadFits}
+use Rattle.flow.specs.Line.{smallAt, beginLine, endLine}
 use Rattle.flow.specs.declared.Kind.{Kind}
 use Rattle.flow.specs.declared.Kind.the-variants.{Read, Put, Copy, Set, Less, Over, Under, Nop, Stop}
 use Rattle.flow.specs.declared.Head.{Head}
 use Rattle.flow.specs.declared.Instruction.{Instruction as Row}
+use Rattle.flow.specs.declared.line.Start.{Start}
 use Rattle.flow.specs.declared.Refusal.{Refusal}
 use Rattle.flow.specs.declared.Refusal.the-variants.{UnknownWord, WrongCount, BadNumber, OutOfRange, OutOfTurn, TooManyLines}
 use Rattle.flow.proofs.RowLaws.{row-back}
 use Rattle.flow.proofs.ClampLaws.{in-range-clamp}
+use Rattle.flow.proofs.ReadLaws.{check-ok, given-ok}
 
 -- ---- the numbers after the word
 abbrev pub cappedAll : Option (List ℤ) → Option (List ℤ)
@@ -94,7 +98,7 @@ module _ (cs : List Bool) (fs : List (List ℕ)) (ns : List ℤ) where
         by none q = absurd (none-no-some (sym q))
         by (some zs) q = (zs, refl, cc)
 
--- ---- the number of the line: it has no minus, and its turn is told from the byte that the code compares
+-- ---- a number without a minus, and what a row keeps of a number
 minus-first : (b : ℕ) (bs : List ℕ) → b ≡ 45 → natural (b ∷ bs) ≡ none
 unfolding natural digitsAfter
 minus-first b [] e = rw e
@@ -188,71 +192,127 @@ clamp-read Under zs ns e =
 clamp-read Nop zs ns e = let s = small-at zs ns 1 e in rw (s 0 (omega arith))
 clamp-read Stop zs ns e = refl
 
--- the row and its test, by the numbers that are written
-module _ (k : Kind) (zs ns : List ℤ) (read : map capped zs ≡ take (length (constantAt k)) ns)
-    (row : Row) (made : row ≡ rowOf (clamp (built k ns))) where
-  pub row-read : row ≡ rowOf (clamp (built k zs))
-  row-read = made ∙ ap rowOf (clamp-read k zs ns read)
+-- ---- what the code finds before the numbers after the word
+module _ (count : ℕ) (fs : List (List ℕ)) where
+  pub begin-many : count ≡ 64 → fault TooManyLines ≡ beginLine count fs
+  unfolding beginLine
+  begin-many e = rw (lt-leb (count + 1) 64 (omega arith))
 
-  pub range-read : (h : Head) → HeadFits h → (t : Bool) → t ≡ all (inRange h) (fields (instructionOf row))
-      → t ≡ all (inRange h) (fields (built k zs))
-  range-read h fits t e =
-      e ∙ ap (λ (x : Instruction). all (inRange h) (fields x)) (ap instructionOf row-read ∙ row-back (clamp (built k zs)))
-      ∙ in-range-clamp h fits (built k zs)
+  module _ (few : count < 64) where
+    abbrev one-more : leb (count + 1) 64 ≡ true
+    one-more = le-leb (count + 1) 64 (omega arith)
 
--- ---- what the line of instruction count + 1 is read as, by what the code finds
--- a line whose word is known, with the fields that the word asks for and its numbers well written
-pub record Written (fs : List (List ℕ)) : Type 0 where
-  pub kind : Kind
-  pub known : kindOf (getD fs 1 []) ≡ some kind
-  pub wide : length fs ≡ length (constantAt kind) + 2
-  pub number : ℕ
-  pub numbered : natural (getD fs 0 []) ≡ some number
-  pub numbers : List ℤ
-  pub read : numerals (constantAt kind) (drop 2 fs) ≡ some numbers
+    pub begin-unknown : kindOf (getD fs 1 []) ≡ none → fault (UnknownWord (count + 2)) ≡ beginLine count fs
+    unfolding beginLine
+    begin-unknown e = rw (one-more, e)
 
+    module _ (k : Kind) (known : kindOf (getD fs 1 []) ≡ some k) where
+      pub begin-count : (length fs ≡ length (constantAt k) + 2 → ⊥) → fault (WrongCount (count + 2)) ≡ beginLine count fs
+      unfolding beginLine
+      begin-count e = rw (one-more, known, ne-eqb (length fs) (length (constantAt k) + 2) e)
+
+      module _ (wide : length fs ≡ length (constantAt k) + 2) where
+        abbrev counted : eqb (length fs) (length (constantAt k) + 2) ≡ true
+        counted = eq-eqb (length fs) (length (constantAt k) + 2) wide
+
+        pub begin-bad : none ≡ smallAt fs 0 → fault (BadNumber (count + 2)) ≡ beginLine count fs
+        unfolding beginLine
+        begin-bad e = rw (one-more, known, counted, ← e)
+
+        pub begin-shown : (b : ℕ) → some b ≡ smallAt fs 0 → ok (record { kind = k; number = b }) ≡ beginLine count fs
+        unfolding beginLine
+        begin-shown b e = rw (one-more, known, counted, ← e)
+
+  -- a line that shows no fault there is not one too many, and has the fields that its word asks for
+  pub begun : (s : Start) → beginLine count fs ≡ ok s → (count < 64) × (length fs ≡ length (constantAt (s .kind)) + 2)
+  unfolding beginLine
+  begun s e =
+      let (few, e₁) = check-ok (leb (count + 1) 64) TooManyLines _ e in
+      let (k, known, e₂) = given-ok (kindOf (getD fs 1 [])) (UnknownWord (count + 2)) _ e₁ in
+      let (wide, e₃) = check-ok (eqb (length fs) (length (constantAt k) + 2)) (WrongCount (count + 2)) _ e₂ in
+      let (n, numbered, e₄) = given-ok (smallAt fs 0) (BadNumber (count + 2)) _ e₃ in
+      let same : k ≡ s .kind = cc in
+      (omega (arith, leb-true (count + 1) 64 few), rw same at (eqb-true (length fs) (length (constantAt k) + 2) wide))
+
+-- ---- what the line of instruction count + 1 is read as, in the code's three steps: before its numbers, its numbers, behind them
+abbrev pub stepped : Head → ℕ → List (List ℕ) → Checked Row
+stepped h count fs =
+    after (beginLine count fs) (λ s.
+    given (numerals (constantAt (s .kind)) (drop 2 fs)) (BadNumber (count + 2)) (λ zs.
+    endLine h count (s .number) (rowOf (clamp (built (s .kind) zs)))))
+
+-- by what the code finds: a fault before the numbers, a number that is badly written, all numbers and the row
 module _ (h : Head) (count : ℕ) (fs : List (List ℕ)) where
+  pub steps-begin : (r : Refusal) → beginLine count fs ≡ fault r → stepped h count fs ≡ fault r
+  steps-begin r e = rw e
+
+  module _ (s : Start) (e : beginLine count fs ≡ ok s) where
+    pub steps-bad : numerals (constantAt (s .kind)) (drop 2 fs) ≡ none → stepped h count fs ≡ fault (BadNumber (count + 2))
+    steps-bad q = rw (e, q)
+
+    pub steps-end : (zs : List ℤ) → numerals (constantAt (s .kind)) (drop 2 fs) ≡ some zs
+        → (ns : List ℤ) → map capped zs ≡ take (length (constantAt (s .kind))) ns → (row : Row) → row ≡ rowOf (clamp (built (s .kind) ns))
+        → endLine h count (s .number) row ≡ stepped h count fs
+    steps-end zs q ns read row made = rw (e, q, made, clamp-read (s .kind) zs ns read)
+
+-- the row that is kept of it
+abbrev rowed : Checked Instruction → Checked Row
+rowed (ok x) = ok (rowOf (clamp x))
+rowed (fault r) = fault r
+
+-- the turn is told from the byte that the code compares
+small-turn : (n i : ℕ) → i ≤ 64 → eqb (small n) i ≡ eqb n i
+small-turn n i l = test-cut (λ k. eqb k i) false 255 n (λ k m. ne-eqb k i (omega arith))
+
+-- a check before the numbers is one of the definition's
+given-rowed : {A : Type 0} (o : Option A) (r : Refusal) (f : A → Checked Instruction) (g : A → Checked Start) (e : Start → Checked Row)
+    → ((x : A) → rowed (f x) ≡ after (g x) e) → rowed (given o r f) ≡ after (given o r g) e
+given-rowed none r f g e step = refl
+given-rowed (some x) r f g e step = step x
+
+small-rowed : (o : Option ℕ) (r : Refusal) (f : ℕ → Checked Instruction) (g : ℕ → Checked Start) (e : Start → Checked Row)
+    → ((n : ℕ) → rowed (f n) ≡ after (g (small n)) e) → rowed (given o r f) ≡ after (given (Option·map small o) r g) e
+small-rowed none r f g e step = refl
+small-rowed (some n) r f g e step = step n
+
+check-rowed : (t : Bool) (r : Refusal) (f : Checked Instruction) (g : Checked Start) (e : Start → Checked Row)
+    → (t ≡ true → rowed f ≡ after g e) → rowed (check t r f) ≡ after (check t r g) e
+check-rowed true r f g e step = step refl
+check-rowed false r f g e step = refl
+
+module _ (h : Head) (fits : HeadFits h) (count : ℕ) (fs : List (List ℕ)) where
   line : count + 1 + 1 ≡ count + 2
   line = omega arith
 
-  pub line-unknown : kindOf (getD fs 1 []) ≡ none → readLine h (count + 1) fs ≡ fault (UnknownWord (count + 2))
-  unfolding readLine
-  line-unknown e = rw (e, line)
+  -- the numbers, and the checks behind them
+  line-end : count < 64 → (k : Kind) (n : ℕ) (o : Option (List ℤ)) →
+      rowed (given o (BadNumber (count + 2)) (λ zs.
+      check (eqb n (count + 1)) (OutOfTurn (count + 2)) (check (all (inRange h) (fields (built k zs))) (OutOfRange (count + 2)) (ok (built k zs)))))
+      ≡ given o (BadNumber (count + 2)) (λ zs. endLine h count (small n) (rowOf (clamp (built k zs))))
+  unfolding endLine
+  line-end few k n none = refl
+  line-end few k n (some zs) =
+      rw (small-turn n (count + 1) (omega arith), row-back (clamp (built k zs)), in-range-clamp h fits (built k zs))
+      (by (eqb n (count + 1)) (all (inRange h) (fields (built k zs))))
+    where
+      x : Instruction
+      x = built k zs
 
-  module _ (k : Kind) (known : kindOf (getD fs 1 []) ≡ some k) where
-    pub line-count : (length fs ≡ length (constantAt k) + 2 → ⊥) → readLine h (count + 1) fs ≡ fault (WrongCount (count + 2))
-    unfolding readLine
-    line-count e = rw (known, ne-eqb (length fs) (length (constantAt k) + 2) e, line)
+      by : (s t : Bool) → rowed (check s (OutOfTurn (count + 2)) (check t (OutOfRange (count + 2)) (ok x)))
+          ≡ check s (OutOfTurn (count + 2)) (check t (OutOfRange (count + 2)) (ok (rowOf (clamp x))))
+      by true true = refl
+      by true false = refl
+      by false t = refl
 
-    module _ (wide : length fs ≡ length (constantAt k) + 2) where
-      abbrev counted : eqb (length fs) (length (constantAt k) + 2) ≡ true
-      counted = eq-eqb (length fs) (length (constantAt k) + 2) wide
-
-      pub line-bad : natural (getD fs 0 []) ≡ none → readLine h (count + 1) fs ≡ fault (BadNumber (count + 2))
-      unfolding readLine
-      line-bad e = rw (known, counted, e, line)
-
-      pub line-bad-after : (n : ℕ) → natural (getD fs 0 []) ≡ some n → numerals (constantAt k) (drop 2 fs) ≡ none
-          → readLine h (count + 1) fs ≡ fault (BadNumber (count + 2))
-      unfolding readLine
-      line-bad-after n numbered e = rw (known, counted, numbered, e, line)
-
-  module _ (w : Written fs) where
-    line-written : readLine h (count + 1) fs
-        ≡ check (eqb (w .number) (count + 1)) (OutOfTurn (count + 2))
-        (check (all (inRange h) (fields (built (w .kind) (w .numbers)))) (OutOfRange (count + 2)) (ok (built (w .kind) (w .numbers))))
-    unfolding readLine
-    line-written = rw (w .known, counted (w .kind) (w .known) (w .wide), w .numbered, w .read, line)
-
-    pub line-turn : (w .number ≡ count + 1 → ⊥) → readLine h (count + 1) fs ≡ fault (OutOfTurn (count + 2))
-    line-turn e = rw (line-written, ne-eqb (w .number) (count + 1) e)
-
-    module _ (turn : w .number ≡ count + 1) where
-      pub line-range : all (inRange h) (fields (built (w .kind) (w .numbers))) ≡ false → readLine h (count + 1) fs ≡ fault (OutOfRange (count + 2))
-      line-range e = rw (line-written, eq-eqb (w .number) (count + 1) turn, e)
-
-      pub line-row : all (inRange h) (fields (built (w .kind) (w .numbers))) ≡ true → readLine h (count + 1) fs ≡ ok (built (w .kind) (w .numbers))
-      line-row e = rw (line-written, eq-eqb (w .number) (count + 1) turn, e)
+  pub line-steps : rowed (check (leb (count + 1) maxInstructions) TooManyLines (readLine h (count + 1) fs)) ≡ stepped h count fs
+  unfolding readLine beginLine
+  line-steps =
+      rw line
+      (check-rowed (leb (count + 1) 64) TooManyLines _ _ _ (λ few.
+      given-rowed (kindOf (getD fs 1 [])) (UnknownWord (count + 2)) _ _ _ (λ k.
+      check-rowed (eqb (length fs) (length (constantAt k) + 2)) (WrongCount (count + 2)) _ _ _ (λ wide.
+      small-rowed (natural (getD fs 0 [])) (BadNumber (count + 2)) _ _ _ (λ n.
+      line-end (omega (arith, leb-true (count + 1) 64 few)) k n (numerals (constantAt k) (drop 2 fs)))))))
 
 -- ---- the lines from a place of the text on, behind the rows that are kept
 abbrev pub prepended : List Row → Checked (List Row) → Checked (List Row)
@@ -269,35 +329,46 @@ pub lines-start : (xs : List Row) (o : Checked (List Row)) → prepended (take 0
 lines-start xs (ok ys) = refl
 lines-start xs (fault r) = refl
 
+-- a line more, by what it is read as
+abbrev followed : List Row → Checked Row → Checked (List Row) → Checked (List Row)
+followed xs (ok x) rest = prepended (xs ++ (x ∷ [])) rest
+followed xs (fault r) rest = fault r
+
+line-followed : (xs : List Row) (few : Bool) (l : Checked Instruction) (rest : Checked (List Instruction)) →
+    prepended xs (kept (check few TooManyLines (after l (λ x. after rest (λ ys. ok (x ∷ ys)))))) ≡ followed xs (rowed (check few TooManyLines l)) (kept rest)
+unfolding kept
+line-followed xs false l rest = refl
+line-followed xs true (ok x) rest = sym (prepend-one-more xs x rest)
+line-followed xs true (fault r) rest = refl
+
 module _ (s : List ℕ) (at : ℕ) (h : Head) (xs : List Row) (count : ℕ) {X : Checked (List Row)}
     (inv : prepended (take count xs) (kept (readLines h (count + 1) (lines (drop at s)))) ≡ X) where
   pub lines-end : length s ≤ at → ok (take count xs) ≡ X
   unfolding readLines kept
   lines-end l = rw (lines-at-end s at l, append-nil) at inv
 
-  module _ (l : at < length s) where
-    pub lines-full : count ≡ 64 → fault TooManyLines ≡ X
-    unfolding readLines kept
-    lines-full f = rw (lines-at s at (at + until 10 (drop at s)) refl l, lt-leb (count + 1) 64 (omega arith)) at inv
+  module _ (fits : HeadFits h) (l : at < length s) (e : ℕ) (found : e ≡ at + until 10 (drop at s)) where
+    -- the fields of the line, and the lines behind it
+    abbrev fs : List (List ℕ)
+    fs = split (take (e - at) (drop at s))
 
-    module _ (m : count < 64) (e : ℕ) (found : e ≡ at + until 10 (drop at s)) where
-      next-line : prepended (take count xs) (kept (after (readLine h (count + 1) (split (take (e - at) (drop at s)))) (λ x.
-          after (readLines h (suc (count + 1)) (lines (drop (e + 1) s))) (λ ys. ok (x ∷ ys))))) ≡ X
-      unfolding readLines
-      next-line = rw (lines-at s at e found l, le-leb (count + 1) 64 (omega arith)) at inv
+    abbrev rest : Checked (List Instruction)
+    rest = readLines h (suc (count + 1)) (lines (drop (e + 1) s))
 
-      pub lines-fault : (r : Refusal) → readLine h (count + 1) (split (take (e - at) (drop at s))) ≡ fault r → fault r ≡ X
-      unfolding kept
-      lines-fault r q = rw q at next-line
+    next-line : followed (take count xs) (stepped h count fs) (kept rest) ≡ X
+    unfolding readLines
+    next-line =
+        rw (← line-steps h fits count fs)
+        (sym (line-followed (take count xs) (leb (count + 1) maxInstructions) (readLine h (count + 1) fs) rest) ∙ (rw (lines-at s at e found l) at inv))
 
-      pub lines-more : (x : Instruction) (row : Row) → count < length xs → row ≡ rowOf (clamp x)
-          → readLine h (count + 1) (split (take (e - at) (drop at s))) ≡ ok x
-          → prepended (take (count + 1) (set xs count row)) (kept (readLines h (count + 1 + 1) (lines (drop (e + 1) s)))) ≡ X
-      lines-more x row n made q =
-          let t : take (count + 1) (set xs count row) ≡ take count xs ++ (rowOf (clamp x) ∷ []) =
-          rw (add-one, ← made) (take-suc-set xs count row n) in
-          let rest = readLines h (suc (count + 1)) (lines (drop (e + 1) s)) in
-          rw (t, add-one (count + 1)) (prepend-one-more (take count xs) x rest ∙ (rw q at next-line))
+    pub lines-fault : (r : Refusal) → stepped h count fs ≡ fault r → fault r ≡ X
+    lines-fault r q = rw q at next-line
+
+    pub lines-more : (row : Row) → count < length xs → stepped h count fs ≡ ok row
+        → prepended (take (count + 1) (set xs count row)) (kept (readLines h (count + 1 + 1) (lines (drop (e + 1) s)))) ≡ X
+    lines-more row n q =
+        let t : take (count + 1) (set xs count row) ≡ take count xs ++ (row ∷ []) = rw add-one (take-suc-set xs count row n) in
+        rw (t, add-one (count + 1)) (rw q at next-line)
 
 -- the rows past the count stay rows of `stop` as the count grows
 pub stops-less : (x y : Row) (xs : List Row) (count : ℕ) → count < 64 → drop count xs ≡ replicate (64 - count) x

@@ -1,6 +1,6 @@
 -- Rows and instructions. A row holds an instruction and gives it back; the tests that the code makes on a row, by its kind, are
 -- those that the definition makes on the fields of its instruction. By the nine kinds, each by computation.
-use mathlib.Core.Path.{_≡_, refl, sym, _∙_}
+use mathlib.Core.Path.{_≡_, refl, sym, ap, _∙_}
 use mathlib.Core.Bool.{Bool, true, false, cond, _&&_}
 use mathlib.Core.Option.{Option, some}
 use mathlib.Core.List.{List, _∷_}
@@ -53,7 +53,7 @@ tested h x =
     (leb 1 (x .v) && leb (x .v) (h .variables))
     (leZ leastConstant (x .c) && leZ (x .c) greatestConstant)
 
-pub in-range-row : (h : Head) (x : Row) → tested h x ≡ all (inRange h) (fields (instructionOf x))
+in-range-row : (h : Head) (x : Row) → tested h x ≡ all (inRange h) (fields (instructionOf x))
 unfolding all
 in-range-row h x = by (x .kind)
   where
@@ -68,11 +68,16 @@ in-range-row h x = by (x .kind)
     by Nop = refl
     by Stop = refl
 
+pub in-range-tests : (h : Head) (x : Row) {t o f v c : Bool} → t ≡ (leb 1 (x .a) && leb (x .a) (h .tapes)) → o ≡ (leb 1 (x .a) && leb (x .a) (h .outputs))
+    → f ≡ (leb 1 (x .a) && leb (x .a) (h .variables)) → v ≡ (leb 1 (x .v) && leb (x .v) (h .variables))
+    → c ≡ (leZ leastConstant (x .c) && leZ (x .c) greatestConstant) → passes (x .kind) t o f v c ≡ all (inRange h) (fields (instructionOf x))
+in-range-tests h x et eo ef ev ec = rw (et, eo, ef, ev, ec) (in-range-row h x)
+
 -- the code's tests of a row's targets
-abbrev pub led : ℕ → Row → Bool
+abbrev led : ℕ → Row → Bool
 led n x = leads (x .kind) (leb 1 (x .p) && leb (x .p) n) (leb 1 (x .m) && leb (x .m) n)
 
-pub is-named-row : (n : ℕ) (x : Row) → led n x ≡ all (isNamed n) (fields (instructionOf x))
+is-named-row : (n : ℕ) (x : Row) → led n x ≡ all (isNamed n) (fields (instructionOf x))
 unfolding all
 is-named-row n x = by (x .kind)
   where
@@ -92,6 +97,10 @@ is-named-row n x = by (x .kind)
     by Under = two p m
     by Nop = one p
     by Stop = refl
+
+pub is-named-tests : (n : ℕ) (x : Row) {p m : Bool} → p ≡ (leb 1 (x .p) && leb (x .p) n) → m ≡ (leb 1 (x .m) && leb (x .m) n)
+    → leads (x .kind) p m ≡ all (isNamed n) (fields (instructionOf x))
+is-named-tests n x ep em = rw (ep, em) (is-named-row n x)
 
 -- the field that may have a minus is the constant among the fields after the word
 none-there : (n k : ℕ) → getD (replicate n false) k false ≡ false
@@ -119,9 +128,8 @@ constant-place Nop k l = ne-eqb k 4 (λ e. omega arith) ∙ sym (none-there 1 k)
 constant-place Stop k l = ne-eqb k 4 (λ e. omega arith) ∙ sym (none-there 0 k)
 
 -- one word more in front of those tried already
-pub word-more : (k : Kind) (s : Bool) (a o : Option Kind) {t : Bool} {rest : Option Kind} → a ≡ cond s (some k) o → s ≡ t → o ≡ rest
-    → a ≡ cond t (some k) rest
-word-more k s a o e f g = cc
+pub word-more : (k : Kind) (t : Bool) {a o rest : Option Kind} → a ≡ cond t (some k) o → o ≡ rest → a ≡ cond t (some k) rest
+word-more k t e f = e ∙ ap (cond t (some k)) f
 
 -- the row that the code makes from the numbers of a line
 pub built-row : (k : Kind) (ns : List ℤ) {x y z m : ℕ} {c d : ℤ} → x ≡ small (natAbs (getD ns 0 (pos 0))) → y ≡ small (natAbs (getD ns 1 (pos 0)))

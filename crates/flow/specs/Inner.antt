@@ -112,7 +112,7 @@ answered Legal rows = ok rows
 answered (Refused r) rows = fault r
 
 unfoldable pub linesIn : Lines → Checked (List Row)
-linesIn r = answered (r .answer) (take (r .count) (r .rows))
+linesIn r = answered (r .reply) (take (r .count) (r .rows))
 
 -- the rows that the code keeps of what the instruction lines are read as
 unfoldable pub kept : Checked (List Instruction) → Checked (List Row)

@@ -4,6 +4,7 @@
 // specs/Read.antt says of the text.
 mod words; // words.rt: the word of a line, and the fields that it asks for
 mod rows; // rows.rt: an instruction from the numbers of its line, and its ranges
+mod line; // line.rt: one instruction line
 mod lines; // lines.rt: line 1, the instruction lines, the targets
 pub mod lent; // lent.rt: an instruction fetched from a lent slice, and stored there
 
@@ -291,7 +292,7 @@ fn read_rest(text: &[u8], from: usize, head: Head) -> Reading
     ensures { λ r. ⌜ r ≡ readingOf (readRest head (lines (drop from (now (text .entry))))) ⌝ }
 {
     let read = lines::read_lines(text, from, head);
-    let answer = read.answer;
+    let answer = read.reply;
     let rows = read.rows;
     match answer {
         Answer::Refused(r) => refused(r),

@@ -15,9 +15,12 @@ use crate::Headed;
 use crate::Instruction;
 use crate::Refusal;
 use crate::lent;
+use crate::line;
+use crate::line::Begun;
+use crate::line::Ended;
+use crate::line::Small;
 use crate::rows;
 use crate::words;
-use crate::words::Word;
 use text::Number;
 
 // Line 1.
@@ -30,25 +33,21 @@ pub fn read_head(line: &[u8]) -> Headed
     if text::field_count(line) != 4 {
         return Headed::Fault(Refusal::WrongCount(1));
     }
-    let Number::Value(tapes) = text::read_number(text::field(line, 1), false) else {
+    let Small::Value(tapes) = line::small_at(line, 1) else {
         return Headed::Fault(Refusal::BadNumber(1));
     };
-    let Number::Value(outputs) = text::read_number(text::field(line, 2), false) else {
+    let Small::Value(outputs) = line::small_at(line, 2) else {
         return Headed::Fault(Refusal::BadNumber(1));
     };
-    let Number::Value(variables) = text::read_number(text::field(line, 3), false) else {
+    let Small::Value(variables) = line::small_at(line, 3) else {
         return Headed::Fault(Refusal::BadNumber(1));
     };
-    Flow::head(
-        rows::small(tapes),
-        rows::small(outputs),
-        rows::small(variables),
-    )
+    Flow::head(tapes, outputs, variables)
 }
 
 // What the instruction lines are read as: rows past the count hold `stop`.
 pub struct Lines {
-    pub answer: Answer,
+    pub reply: Answer,
     pub count: usize,
     pub rows: [Instruction; Flow::MAX_INSTRUCTIONS],
 }
@@ -62,52 +61,35 @@ pub fn read_lines(text: &[u8], from: usize, head: Head) -> Lines
     let mut rows = [Instruction::stop(); Flow::MAX_INSTRUCTIONS];
     let mut count: usize = 0;
     let mut at = from;
-    let answer = 'lines: loop {
+    let reply = 'lines: loop {
         if text.len() <= at {
             break 'lines Answer::Legal;
         }
-        if count == Flow::MAX_INSTRUCTIONS {
-            break 'lines Answer::Refused(Refusal::TooManyLines);
-        }
         let end = text::end_of(text, at, 10);
         let line = &text[at..end];
-        let Word::Known(kind) = words::kind_of(text::field(line, 1)) else {
-            break 'lines Answer::Refused(Refusal::UnknownWord(count + 2));
+        let start = match line::begin(line, count) {
+            Begun::Shown(start) => start,
+            Begun::Fault(r) => break 'lines Answer::Refused(r),
         };
-        let width = words::width(kind);
-        if text::field_count(line) != width + 2 {
-            break 'lines Answer::Refused(Refusal::WrongCount(count + 2));
-        }
-        let Number::Value(number) = text::read_number(text::field(line, 0), false) else {
-            break 'lines Answer::Refused(Refusal::BadNumber(count + 2));
-        };
+        let kind = start.kind;
         let mut nums = [0i64; 4];
-        let mut k = 0;
-        while k < width {
-            let minus = k == words::constant_place(kind);
-            let Number::Value(x) = text::read_number(text::field(line, k + 2), minus) else {
+        for k in 0..words::width(kind) {
+            let Number::Value(x) = line::number_at(line, kind, k) else {
                 break 'lines Answer::Refused(Refusal::BadNumber(count + 2));
             };
             nums[k] = x;
-            k += 1;
-        }
-        if rows::small(number) as usize != count + 1 {
-            break 'lines Answer::Refused(Refusal::OutOfTurn(count + 2));
         }
         let row = rows::build(kind, nums);
-        if !rows::in_range(row, head) {
-            break 'lines Answer::Refused(Refusal::OutOfRange(count + 2));
-        }
-        let stored = lent::with_row(rows, count, row);
+        let kept = match line::end(start.number, row, count, head) {
+            Ended::Kept(kept) => kept,
+            Ended::Fault(r) => break 'lines Answer::Refused(r),
+        };
+        let stored = lent::with_row(rows, count, kept);
         rows = stored;
         count += 1;
         at = end + 1;
     };
-    Lines {
-        answer,
-        count,
-        rows,
-    }
+    Lines { reply, count, rows }
 }
 
 // Whether every target names an instruction, or the lowest line with one that does not.

@@ -66,12 +66,14 @@ fn row(kind: Kind, x: u8, y: u8, z: u8, m: u8, c: i32, d: i32) -> Instruction
 pub fn build(kind: Kind, nums: [i64; 4]) -> Instruction
     ensures { λ r. ⌜ r ≡ rowOf (clamp (built kind nums)) ⌝ }
 {
-    let x = small(nums[0]);
-    let y = small(nums[1]);
+    let first = nums[0];
+    let second = nums[1];
+    let x = small(first);
+    let y = small(second);
     let z = small(nums[2]);
     let m = small(nums[3]);
-    let c = in_bounds(nums[0]);
-    let d = in_bounds(nums[1]);
+    let c = in_bounds(first);
+    let d = in_bounds(second);
     row(kind, x, y, z, m, c, d)
 }
 

@@ -3,6 +3,7 @@ ghost use mathlib.Core.Path.{_≡_};
 ghost use mathlib.Core.Bool.{cond};
 ghost use mathlib.Core.Option.{some};
 ghost use lib.ListN.{length};
+ghost use Rattle.text.specs.Split.{sameWord};
 ghost use Rattle.flow.specs.Words.{kindOf, constantAt};
 ghost use Rattle.flow.specs.Inner.{kindIn, constantPlace};
 use crate::Kind;
@@ -13,25 +14,28 @@ pub enum Word {
     Unknown,
 }
 
-// The kind where the word is the wanted one, else what was found otherwise.
-fn found(same: bool, kind: Kind, otherwise: Word) -> Word
-    ensures { λ r. ⌜ kindIn r ≡ cond same (some kind) (kindIn otherwise) ⌝ }
+// The kind where w is its word, else what was found otherwise.
+fn found(w: &[u8], word: &[u8], kind: Kind, otherwise: Word) -> Word
+    ensures { λ r. ⌜ kindIn r ≡ cond (sameWord (now (w .entry)) (now (word .entry))) (some kind) (kindIn otherwise) ⌝ }
 {
-    if same { Word::Known(kind) } else { otherwise }
+    if text::same_word(w, word) {
+        return Word::Known(kind);
+    }
+    otherwise
 }
 
 pub fn kind_of(w: &[u8]) -> Word
     ensures { λ r. ⌜ kindIn r ≡ kindOf (now (w .entry)) ⌝ }
 {
-    let k = found(text::same_word(w, b"stop"), Kind::Stop, Word::Unknown);
-    let k = found(text::same_word(w, b"nop"), Kind::Nop, k);
-    let k = found(text::same_word(w, b"under"), Kind::Under, k);
-    let k = found(text::same_word(w, b"over"), Kind::Over, k);
-    let k = found(text::same_word(w, b"less"), Kind::Less, k);
-    let k = found(text::same_word(w, b"set"), Kind::Set, k);
-    let k = found(text::same_word(w, b"copy"), Kind::Copy, k);
-    let k = found(text::same_word(w, b"put"), Kind::Put, k);
-    found(text::same_word(w, b"read"), Kind::Read, k)
+    let k = found(w, b"stop", Kind::Stop, Word::Unknown);
+    let k = found(w, b"nop", Kind::Nop, k);
+    let k = found(w, b"under", Kind::Under, k);
+    let k = found(w, b"over", Kind::Over, k);
+    let k = found(w, b"less", Kind::Less, k);
+    let k = found(w, b"set", Kind::Set, k);
+    let k = found(w, b"copy", Kind::Copy, k);
+    let k = found(w, b"put", Kind::Put, k);
+    found(w, b"read", Kind::Read, k)
 }
 
 // How many fields follow the word.

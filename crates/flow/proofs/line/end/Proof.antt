@@ -1,0 +1,24 @@
+-- `line::end` meets its contract: each way out is one of the definition's checks.
+use mathlib.Core.Path.{sym, _∙_}
+use borrow.Author.Needs.{needs}
+use borrow.Author.Tests.{eq-eqb, ne-eqb, not-true, not-false}
+use Rattle.flow.specs.Line.{endLine}
+use Rattle.flow.proofs.line.end.Statement.{statement}
+use Rattle.flow.proofs.line.end.Tie as tie
+
+returns : tie.Need-returns
+unfolding endLine
+returns c = rw (ne-eqb _ _ (c .if1 .taken))
+
+returns-2 : tie.Need-returns-2
+unfolding endLine
+returns-2 c = rw (eq-eqb _ _ (c .before .before .if1 .left), sym (c .before .in-range .ensures) ∙ not-true _ (c .if2 .taken))
+
+returns-3 : tie.Need-returns-3
+unfolding endLine
+returns-3 c = rw (eq-eqb _ _ (c .before .before .if1 .left), sym (c .before .in-range .ensures) ∙ not-false _ (c .if2 .left))
+
+pub end-spec : {M : Type 1} → statement M
+end-spec =
+    tie.close
+    (tie.spec (λ c. search needs) (λ c. search needs) returns (λ c κs. search needs) (λ c. search needs) returns-2 returns-3)
