@@ -52,6 +52,7 @@ isNamed count (variable n) = true
 isNamed count (target n) = leb 1 n && leb n count
 isNamed count (constant c) = true
 
+-- every field passes a test
 unfoldable pub all : (Field → Bool) → List Field → Bool
 all holds [] = true
 all holds (f ∷ fs) = holds f && all holds fs
@@ -108,6 +109,7 @@ unfoldable pub lostTarget : ℕ → ℕ → List Instruction → Option ℕ
 lostTarget count line [] = none
 lostTarget count line (x ∷ xs) = cond (all (isNamed count) (fields x)) (lostTarget count (suc line) xs) (some line)
 
+-- turned back at the line that was found, if one was
 abbrev pub unless : {A : Type 0} → Option ℕ → (ℕ → Refusal) → Checked A → Checked A
 unless none r rest = rest
 unless (some n) r rest = fault (r n)

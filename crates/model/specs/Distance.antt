@@ -15,7 +15,7 @@ pub record Takes (flow : Flow) (tapes : List (List ℤ)) (i : ℕ) (e : Exit) (d
   pub here : run flow tapes before .next ≡ i
   pub exit : exitOf flow (run flow tapes before) ≡ some e
 
--- the distance to the exit is d: some T tapes take it by step d, and no T tapes by an earlier one
+-- the distance to the exit is d: some T tapes take it with step d, and no T tapes with an earlier one
 pub record Distance (flow : Flow) (i : ℕ) (e : Exit) (d : ℕ) : Type 0 where
   pub tapes : List (List ℤ)
   pub count : length tapes ≡ flow .tapes

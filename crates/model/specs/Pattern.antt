@@ -22,7 +22,7 @@ unfoldable pub different : (ℤ → Bool) → List ℤ → ℕ
 different passes [] = 0
 different passes (x ∷ xs) = cond (passes x && not (among x xs)) (suc (different passes xs)) (different passes xs)
 
--- the rank of x among the values beyond an edge, counted from the nearest, equal values sharing a rank;
+-- the rank of x among the values beyond an edge, counted from 1 at the nearest, equal values sharing a rank;
 -- `nearer y z` says that y is nearer to the edge than z
 abbrev pub rank : (ℤ → ℤ → Bool) → ℤ → List ℤ → ℤ → ℕ
 rank nearer edge values x = different (λ y. nearer edge y && not (nearer x y)) values

@@ -1,6 +1,6 @@
 -- The text of a flow settles what is printed: any two answers as promised, with as many cells lent, have the same text, byte for byte.
 use mathlib.Core.Path.{_≡_, refl, sym, ap, ap₂, _∙_}
-use mathlib.Core.Bool.{Bool, false}
+use mathlib.Core.Bool.{false}
 use mathlib.Core.List.{List, _∷_, _++_}
 use Prim.Native.Nat.{ℕ, zero, suc, _+_, _≤_, _<_}
 use native.Mathlib.Omega.{arith}
@@ -13,14 +13,13 @@ use Rattle.model.proofs.Theorems.{distance-unique, distance-excludes-none}
 use Rattle.text.specs.Write.{ended}
 use Rattle.flow.specs.Limits.{maxInstructions}
 use Rattle.flow.specs.Read.{Checked, ok, fault, readFlow}
-use Rattle.flow.specs.declared.Refusal.{Refusal}
 use Rattle.cells.specs.Cells.{Rows, cellsOf}
 use Rattle.interpreter.specs.Run.{written}
 use Rattle.tape_maker.specs.Report.{Outnumber, Reported, Searched, ReportOf, refusal}
 use Rattle.tape_maker.specs.declared.ReportEnd.{ReportEnd}
 use Rattle.tape_maker.specs.declared.ReportEnd.the-variants.{Given, Refused}
 use Rattle.tape_maker.specs.declared.ReportAnswer.{ReportAnswer}
-use Rattle.render.specs.Report.{exitLines, linesFrom, wordLine, headLine, reportLines, reportText, Printed}
+use Rattle.render.specs.Report.{exitLines, linesFrom, headLine, reportLines, reportText, Printed}
 
 -- what a number says of an exit, no other says
 says-unique : (flow : Flow) (i : ℕ) (e : Exit) (c d : ℕ) → Says flow i e c → Says flow i e d → c ≡ d
@@ -79,5 +78,5 @@ module _ (rows rows₁ rows′ rows₂ : Rows) (same-cells : cellsOf rows ≡ ce
 pub printed-settled : {text row row₁ row₂ : List ℕ} {m n : ℕ} → Printed text row row₁ m → Printed text row row₂ n → (m ≡ n) × (row₁ ≡ row₂)
 printed-settled {text} {row} x y =
     let lent = x .lent ∙ sym (y .lent) in
-    let same = answer-settled (x .cells) (x .cells′) (y .cells) (y .cells′) lent (x .answer) (y .answer) (readFlow text) (x .is) (y .is) in
-    (x .size ∙ ap length same ∙ sym (y .size), x .bytes ∙ ap (λ (bs : List ℕ). written bs row) same ∙ sym (y .bytes))
+    let same = answer-settled (x .rows) (x .rows′) (y .rows) (y .rows′) lent (x .answer) (y .answer) (readFlow text) (x .is) (y .is) in
+    (x .size ∙ ap length same ∙ sym (y .size), x .after ∙ ap (λ (bs : List ℕ). written bs row) same ∙ sym (y .after))

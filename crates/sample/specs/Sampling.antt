@@ -3,29 +3,35 @@ use mathlib.Core.Path.{_≡_}
 use mathlib.Core.Bool.{Bool, true}
 use mathlib.Core.List.{List}
 use mathlib.Core.Option.{Option}
-use Prim.Native.Nat.{ℕ, suc, _+_, _<_, _≤_}
+use Prim.Native.Nat.{ℕ, suc, _+_, _-_, _<_, _≤_}
 use lib.IntN.{ℤ, pos, negsuc}
-use lib.ListN.{length, getD, take, drop}
+use lib.ListN.{length, getD, drop}
 use lib.Signed.{leZ}
 use lib.Dec.{T}
-use Rattle.model.specs.Language.{Flow}
+use Rattle.model.specs.Language.{Flow, instruction, hasExits, C1, C2}
 use Rattle.model.specs.Machine.{Exit, exitIf}
 use Rattle.model.specs.Distance.{Distance}
-use Rattle.model.specs.Sample.{Sample}
-use Rattle.model.specs.Tapes.{tapesIn, total}
+use Rattle.model.specs.Tapes.{total}
 use Rattle.model.proofs.Path.{Follows}
 use Rattle.model.proofs.Pad.{wider}
+use Rattle.flow.specs.Legal.{Legal}
+use Rattle.configuration.specs.Op.{widthOf}
 use Rattle.configuration.specs.Place.{words, atOf, configurationOf}
 use Rattle.configuration.specs.Step.{takesOf, startOf}
 use Rattle.configuration.specs.Graph.{Edge, opAt}
 use Rattle.configuration.specs.declared.Words.{Words}
 use Rattle.configuration.specs.declared.Op.{Op}
 use Rattle.configuration.proofs.Steps.{Fit, Proper}
-use Rattle.table.specs.Passes.{Prepared}
+use Rattle.cells.specs.Entries.{Entries}
+use Rattle.cells.specs.Way.{Parents}
+use Rattle.cells.specs.declared.Found.{Found}
+use Rattle.table.specs.Table.{Complete}
+use Rattle.table.specs.Passes.{blank, Prepared, Walkable, takesAt, FirstIs}
 use Rattle.table.specs.Way.{placeOn, Passable, opOn, countedOf, readsOn}
 use Rattle.tapes.specs.Reading.{written}
 use Rattle.tapes.specs.Fit.{Fit as Laid}
 use Rattle.tapes.specs.declared.Walk.{Walk}
+use Rattle.sample.specs.Picking.{Written}
 
 -- a way of so many steps: the rows of the table, the row that holds the way, the prepared instructions, and C1 and C2
 pub record Course : Type 0 where
@@ -95,10 +101,25 @@ pub record Following (k : Course) (flow : Flow) (sizes : List ℕ) (old : List �
   pub size : length row ≡ length old
   pub beyond : drop (total sizes) row ≡ drop (total sizes) old
 
--- the lengths divide the row into a sample for the exit; tapes that the flow does not have are empty, and cells beyond keep their values
-pub record Written (k : Course) (flow : Flow) (exit : Bool) (old row : List ℤ) (lengths : List ℕ) : Type 0 where
-  pub sample : Sample (k .lo) (k .hi) flow (endOf k) (exitIf exit) (suc (k .steps)) (tapesIn (take (flow .tapes) lengths) row)
-  pub idle : (a : ℕ) → flow .tapes ≤ a → getD lengths a 0 ≡ 0
-  pub few : total lengths ≤ suc (k .steps)
-  pub size : length row ≡ length old
-  pub beyond : drop (total lengths) row ≡ drop (total lengths) old
+-- the row holds a sample for the exit at the end of the way
+abbrev pub WrittenBy : Course → Flow → (exit : Bool) (old row : List ℤ) (lengths : List ℕ) → Type 0
+WrittenBy k flow exit old row lengths = Written (k .lo) (k .hi) flow (endOf k) (exitIf exit) (suc (k .steps)) old row lengths
+
+-- ---- the table that a way is taken from
+-- a finished table of n entries of a flow, with its instructions prepared, C1 and C2, and room for the way to an entry; instruction i has two
+-- exits
+pub record Tabled (flow : Flow) (e : Entries) (n room : ℕ) (ops : List Op) (w : ℕ) (lo hi : ℤ) (i : ℕ) : Type 0 where
+  pub legal : Legal flow
+  pub width : w ≡ widthOf (C1 flow) (C2 flow)
+  pub low : lo ≡ C1 flow
+  pub high : hi ≡ C2 flow
+  pub prepared : Prepared (C1 flow) flow ops
+  pub complete : Complete (C1 flow) w flow e n
+  pub parents : Parents (e .distances) (e .parents) n
+  pub walkable : Walkable (e .places) (e .patterns) (e .distances) n
+  pub path-room : n ≤ room
+  pub wanted : hasExits (instruction flow i) ≡ true
+
+-- the entry that is nearest of those that take exit x of instruction i
+abbrev pub NearestIs : (w : ℕ) → Entries → (n : ℕ) (ops : List Op) (i : ℕ) → Exit → Found → Type 0
+NearestIs w e n ops i x = FirstIs (takesAt w (e .places) (e .patterns) (getD ops (i - 1) blank) i x) n

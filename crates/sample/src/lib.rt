@@ -2,19 +2,23 @@
 // records that its steps take are written into the lent row.
 ghost use mathlib.Core.Path.{_≡_};
 ghost use mathlib.Core.Bool.{true, _&&_};
-ghost use Prim.Native.Nat.{suc, _-_, _≤_, _<_};
+ghost use Prim.Native.Nat.{ℕ, suc, _-_, _≤_, _<_};
 ghost use lib.ListN.{length, getD};
 ghost use Rattle.model.specs.Language.{Flow as FlowOf};
+ghost use Rattle.model.specs.Machine.{exitIf};
 ghost use Rattle.flow.specs.Limits.{maxInstructions};
 ghost use Rattle.configuration.specs.Place.{words, atOf};
 ghost use Rattle.configuration.specs.Pattern.{Width, laneOf, valueOf};
 ghost use Rattle.configuration.proofs.Span.{real};
 ghost use Rattle.tapes.specs.Moves.{Movable};
 ghost use Rattle.tapes.specs.Reading.{Ready};
+ghost use Rattle.cells.specs.Entries.{entries};
 ghost use Rattle.table.specs.Passes.{Stands};
 ghost use Rattle.table.specs.Way.{placeOn, Passable, isRead, countedOf, readsOn};
 ghost use Rattle.sample.specs.Steps.{wishOf, takesRecord, termIn, quietWalk, walkTo, rowTo, lastRow, Fine, Low};
-ghost use Rattle.sample.specs.Sampling.{course, Leads, Ends, Roomy, Following, Written};
+ghost use Rattle.sample.specs.Sampling.{course, Leads, Ends, Roomy, Following, WrittenBy, Tabled, NearestIs};
+ghost use Rattle.sample.specs.Picking.{PickedIs};
+use cells::Found;
 use configuration::Action;
 use configuration::Op;
 use configuration::Words;
@@ -24,6 +28,20 @@ use flow::Flow;
 use tapes::Walk;
 
 const TAPES: usize = Flow::MAX_TAPES as usize;
+
+// Whether an exit is taken by a sample, by no tapes, or only by tapes too long for the row.
+pub enum Outcome {
+    Taken,
+    Never,
+    Short,
+}
+
+// What is picked for an exit: of a sample its distance, and the lengths of the tapes in the row.
+pub struct Picked {
+    pub outcome: Outcome,
+    pub distance: usize,
+    pub lengths: [usize; TAPES],
+}
 
 // The value by which the code of variable u is tried.
 fn wish_at(word: u64, w: u64, lo: i32, u: u8) -> i32
@@ -221,7 +239,7 @@ fn write_steps(
 }
 
 // A sample for the exit, p if `exit`, of the instruction at the end of a way: its records in the row, and the lengths of its tapes.
-pub fn write_sample(
+fn write_sample(
     places: &[u64],
     patterns: &[u64],
     path: &[u32],
@@ -239,7 +257,7 @@ pub fn write_sample(
     ensures { λ r. ⌜ ((flow : FlowOf)
         → Leads (course (now (places .entry)) (now (patterns .entry)) (now (path .entry)) steps ops w lo hi) flow
         → Ends (course (now (places .entry)) (now (patterns .entry)) (now (path .entry)) steps ops w lo hi) flow exit
-        → Written (course (now (places .entry)) (now (patterns .entry)) (now (path .entry)) steps ops w lo hi) flow exit
+        → WrittenBy (course (now (places .entry)) (now (patterns .entry)) (now (path .entry)) steps ops w lo hi) flow exit
         (now (row .entry)) (now (row .exit)) r) ⌝ }
 {
     let i = index(table::place_on(path, places, steps));
@@ -248,4 +266,101 @@ pub fn write_sample(
     let walk = write_steps(places, patterns, path, steps, ops, w, lo, hi, sizes, row);
     last_read(row, walk, op, exit, lo, hi);
     sizes
+}
+
+// Nothing is picked.
+fn without(outcome: Outcome) -> Picked
+    ensures { λ r. ⌜ r .outcome ≡ outcome ⌝ }
+{
+    Picked {
+        outcome,
+        distance: 0,
+        lengths: [0; TAPES],
+    }
+}
+
+// What is picked for the exit, p if `exit`, that entry k is the nearest to take: the way to the entry is written into path, and the records
+// that are read on it into row.
+fn sample_at(
+    places: &[u64],
+    patterns: &[u64],
+    distances: &[u32],
+    parents: &[u32],
+    path: &mut [u32],
+    n: usize,
+    ops: [Op; Flow::MAX_INSTRUCTIONS],
+    w: u64,
+    lo: i32,
+    hi: i32,
+    k: usize,
+    exit: bool,
+    row: &mut [i32],
+) -> Picked
+    requires { ⌜ ((flow : FlowOf) × (i : ℕ)
+        × Tabled flow (entries (now places) (now patterns) (now distances) (now parents)) n (length (now path)) ops w lo hi i
+        × NearestIs w (entries (now places) (now patterns) (now distances) (now parents)) n ops i (exitIf exit) (Found.At k)) ⌝ }
+    ensures { λ r. ⌜ ((flow : FlowOf) (i : ℕ)
+        → Tabled flow (entries (now (places .entry)) (now (patterns .entry)) (now (distances .entry)) (now (parents .entry))) n
+        (length (now (path .entry))) ops w lo hi i
+        → NearestIs w (entries (now (places .entry)) (now (patterns .entry)) (now (distances .entry)) (now (parents .entry))) n ops i
+        (exitIf exit) (Found.At k)
+        → PickedIs flow i (exitIf exit) (now (row .entry)) (now (row .exit)) r (r .outcome)) ⌝ }
+{
+    let d = table::wide(distances[k]);
+    if row.len() <= d {
+        return without(Outcome::Short);
+    }
+    cells::trace(distances, parents, path, n, k);
+    let lengths = write_sample(places, patterns, path, d, ops, w, lo, hi, exit, row);
+    Picked {
+        outcome: Outcome::Taken,
+        distance: d + 1,
+        lengths,
+    }
+}
+
+// What is picked for an exit of an instruction, p if `exit`, from a finished table of n entries; path is overwritten.
+pub fn sample_for(
+    places: &[u64],
+    patterns: &[u64],
+    distances: &[u32],
+    parents: &[u32],
+    path: &mut [u32],
+    n: usize,
+    ops: [Op; Flow::MAX_INSTRUCTIONS],
+    w: u64,
+    lo: i32,
+    hi: i32,
+    instruction: usize,
+    exit: bool,
+    row: &mut [i32],
+) -> Picked
+    requires { ⌜ ((flow : FlowOf)
+        × Tabled flow (entries (now places) (now patterns) (now distances) (now parents)) n (length (now path)) ops w lo hi instruction) ⌝ }
+    ensures { λ r. ⌜ ((flow : FlowOf)
+        → Tabled flow (entries (now (places .entry)) (now (patterns .entry)) (now (distances .entry)) (now (parents .entry))) n
+        (length (now (path .entry))) ops w lo hi instruction
+        → PickedIs flow instruction (exitIf exit) (now (row .entry)) (now (row .exit)) r (r .outcome)) ⌝ }
+{
+    let at = instruction - 1;
+    let op = ops[at];
+    let found = table::nearest(places, patterns, n, op, w, instruction, exit);
+    match found {
+        Found::Nothing => without(Outcome::Never),
+        Found::At(k) => sample_at(
+            places,
+            patterns,
+            distances,
+            parents,
+            path,
+            n,
+            ops,
+            w,
+            lo,
+            hi,
+            k,
+            exit,
+            row,
+        ),
+    }
 }

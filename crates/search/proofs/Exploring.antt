@@ -32,14 +32,14 @@ use Rattle.cells.specs.Index.{node}
 use Rattle.cells.specs.Entries.{distanceOf, Begun}
 use Rattle.cells.proofs.Room.{roomy}
 use Rattle.table.specs.Table.{wordGraph, wordsAt, tableOf}
-use Rattle.search.specs.Growth.{entriesOf, Grows, none, more, Outgrown, Kept}
-use Rattle.search.specs.Fan.{Marked, Leads, Fine}
+use Rattle.growth.specs.Growth.{entriesOf, Grows, none, more, Outgrown, Kept}
+use Rattle.growth.specs.Fan.{Marked, Leads, Fine}
 use Rattle.table.specs.Passes.{Prepared}
 use Rattle.search.specs.Search.{Exploring, Finished, SearchedIs}
 use Rattle.search.specs.declared.Searched.{Searched}
-use Rattle.search.proofs.Growing.{grows-extends}
-use Rattle.search.proofs.Visiting.{node-words}
-use Rattle.search.proofs.Fanning.{true-false}
+use Rattle.growth.proofs.Growing.{grows-extends}
+use Rattle.growth.proofs.Visiting.{node-words}
+use Rattle.growth.proofs.Fanning.{true-false}
 
 -- ---- the instruction of a place, as the walk picks it
 pub either : {A B C : Type 0} → (A → C) → (B → C) → A ⊎ B → C

@@ -1,6 +1,6 @@
 -- What a search promises: it stores all configurations that a flow reaches, or says that they outnumber the cells.
 use mathlib.Core.List.{List}
-use Prim.Native.Nat.{ℕ, _≤_}
+use Prim.Native.Nat.{ℕ, _+_, _≤_}
 use lib.IntN.{ℤ}
 use Rattle.graph.specs.Lists.{MoreThan}
 use Rattle.graph.specs.Graph.{Reached}
@@ -9,11 +9,12 @@ use Rattle.model.specs.Language.{Flow}
 use Rattle.configuration.specs.declared.Op.{Op}
 use Rattle.configuration.proofs.Steps.{Fit}
 use Rattle.cells.specs.Cells.{Rows}
-use Rattle.cells.specs.Entries.{Filled}
+use Rattle.cells.specs.Entries.{Filled, distanceOf}
 use Rattle.table.specs.Passes.{Prepared}
-use Rattle.table.specs.Table.{wordGraph, tableOf, Complete}
-use Rattle.search.specs.Growth.{entriesOf}
-use Rattle.search.specs.Fan.{Ready}
+use Rattle.table.specs.Table.{wordGraph, wordsAt, tableOf, Complete}
+use Rattle.growth.specs.Growth.{entriesOf}
+use Rattle.growth.specs.Fan.{Ready, Leads, GrownIs}
+use Rattle.growth.specs.declared.Grown.{Grown}
 use Rattle.search.specs.declared.Searched.{Searched}
 use Rattle.search.specs.declared.Searched.the-variants.{Done, Full}
 
@@ -24,6 +25,12 @@ pub record Subject (w : ℕ) (ops : List Op) : Type 0 where
   pub flow : Flow
   pub fit : Fit lo hi w flow
   pub prepared : Prepared lo flow ops
+
+-- entry k is expanded: all that an edge leads to is stored
+abbrev pub ExpandedIs : (w : ℕ) → Op → (r r′ : Rows) (count cells k : ℕ) → Grown → Type 0
+ExpandedIs w op r r′ count cells k g =
+    let x = wordsAt (entriesOf r) k in
+    GrownIs (Leads w op x) (Leads w op x) w r r′ count cells (distanceOf (entriesOf r) k + 1) k g
 
 -- the search of a flow with k entries expanded
 pub record Exploring (lo : ℤ) (w : ℕ) (flow : Flow) (r : Rows) (count cells k : ℕ) : Type 0 where

@@ -1,55 +1,40 @@
--- The sample by the code's steps: what a wish for an exit that exists asks, what a finished table gives for it, and what the text says.
+-- The sample by the code's steps: what a text is asked for, what is drawn from a search, and what is answered.
 use mathlib.Core.Path.{_≡_, refl, sym, ap, _∙_, subst, subst⁻¹}
-use mathlib.Core.Bool.{Bool, false}
+use mathlib.Core.Bool.{Bool, true, false}
 use mathlib.Core.List.{List, _∷_, map}
-use Prim.Native.Nat.{ℕ, zero, suc, _+_, _-_, _≤_, _<_}
+use Prim.Native.Nat.{ℕ, zero, suc, _-_, _≤_, _<_}
 use native.Mathlib.Omega.{arith}
-use native.Mathlib.Decide.{decLt}
-use lib.IntN.{ℤ, pos, negsuc}
-use lib.Signed.{leZ}
-use lib.Dec.{T}
+use lib.IntN.{ℤ}
 use lib.ListN.{length, getD, take, List·getD-eq-default, length-map, length-take}
-use Rattle.model.specs.Language.{Flow, stop, instruction, hasExits, C1, C2}
+use Rattle.model.specs.Language.{Flow, stop, instruction, hasExits, C1}
 use Rattle.model.specs.Machine.{Exit, exitIf}
-use Rattle.model.specs.Distance.{Distance}
-use Rattle.model.specs.Sample.{Sample}
-use Rattle.model.specs.Tapes.{tapesIn}
-use Rattle.model.proofs.Integers.{zarith}
-use Rattle.flow.specs.Limits.{maxInstructions}
 use Rattle.flow.specs.Read.{Checked, ok, fault, readFlow}
-use Rattle.flow.specs.Code.{instructionOf, flowOf}
+use Rattle.flow.specs.Code.{instructionOf, flowOf, noFlow}
 use Rattle.flow.specs.declared.Refusal.{Refusal}
-use Rattle.flow.specs.declared.Refusal.the-variants.{ShortRow}
+use Rattle.flow.specs.declared.Refusal.the-variants.{NoSuchExit}
 use Rattle.flow.specs.declared.Instruction.{Instruction as Row}
-use Rattle.flow.specs.declared.Flow.{Flow as RowsOf}
-use Rattle.configuration.specs.Op.{opOf}
-use Rattle.configuration.specs.Place.{configurationOf}
+use Rattle.flow.specs.declared.Flow.{Flow as FlowRows}
 use Rattle.configuration.specs.declared.Op.{Op}
 use Rattle.configuration.specs.declared.Words.{Words}
-use Rattle.configuration.proofs.Steps.{Fit}
-use Rattle.configuration.proofs.Fitting.{legal-limited}
 use Rattle.cells.specs.Cells.{Rows, cellsOf, Zeroed}
-use Rattle.cells.specs.Entries.{Entries, distanceOf}
-use Rattle.cells.specs.Way.{Traced}
-use Rattle.cells.specs.declared.Found.{Found}
-use Rattle.cells.specs.declared.Found.the-variants.{At, Nothing}
-use Rattle.graph.proofs.Counting.{listed}
-use Rattle.table.specs.Table.{wordsAt, Complete}
-use Rattle.table.specs.Passes.{blank, Prepared, takesAt, FirstIs}
-use Rattle.table.proofs.Words.{complete-census, length-complete}
-use Rattle.table.proofs.Says.{found-distance, found-stored, found-nothing, past-plain}
 use Rattle.table.proofs.Way.{complete-parents}
-use Rattle.search.specs.Growth.{entriesOf}
-use Rattle.search.specs.Search.{Finished as TableDone}
-use Rattle.sample.specs.Sampling.{Course, course, Leads, endOf, Ends, Written}
-use Rattle.sample.proofs.Given.{traced-leads, found-ends}
-use Rattle.tape_maker.specs.Sample.{Wanted, bare, Reason, short-row, Answered, SampleOf, SampleIs}
-use Rattle.tape_maker.specs.Inner.{exitsAt, exitsIn, Asked, Finished}
-use Rattle.tape_maker.specs.declared.SampleEnd.{SampleEnd}
+use Rattle.growth.specs.Growth.{entriesOf}
+use Rattle.search.specs.Search.{Finished}
+use Rattle.search.specs.declared.Searched as Ends
+use Rattle.search.specs.declared.Searched.the-variants.{Done, Full}
+use Rattle.sample.specs.Sampling.{Tabled}
+use Rattle.sample.specs.Picking.{PickedIs}
+use Rattle.sample.specs.declared.Outcome as Outcomes
+use Rattle.sample.specs.declared.Picked.{Picked}
+use Rattle.tape_maker.specs.Sample.{Wanted, Held, bare, no-such-exit, too-few-cells, short-row, Answered, SampleOf, SampleIs}
+use Rattle.tape_maker.specs.Inner.{exitsAt, exitsIn, Plan, LegalPlan, RefusedPlan, Explored, AskedFor, AskedIs, endingOf, drawnOf, DrawnIs, sampleAnswer}
 use Rattle.tape_maker.specs.declared.SampleEnd.the-variants.{Taken, Never, Refused}
 use Rattle.tape_maker.specs.declared.SampleAnswer.{SampleAnswer}
+use Rattle.tape_maker.specs.declared.planning.Planned.{Planned}
+use Rattle.tape_maker.specs.declared.sampling.Ending as Endings
+use Rattle.tape_maker.specs.declared.sampling.Drawn.{Drawn}
 use Rattle.tape_maker.proofs.Tables.{exits-held}
-use Rattle.tape_maker.proofs.ReportLaws.{fits, prepared, finished-walkable}
+use Rattle.tape_maker.proofs.ReportLaws.{finished-walkable, finished-count, explored-done, explored-full, done-legal}
 
 -- ---- which instructions have two exits
 pub exits-past : (rows : List Row) (count i : ℕ) → count < i → false ≡ exitsAt rows count i
@@ -63,214 +48,176 @@ exits-there rows count zero d a b c = absurd (omega arith)
 exits-there rows count (suc i) d a b c =
     let n : suc i - 1 ≡ i = omega arith in ap (λ (j : ℕ). exitsIn (getD rows j d)) n ∙ exits-held rows count i d (omega arith) c
 
--- an instruction with two exits is one of the flow's
-pub wanted-first : (flow : Flow) (i : ℕ) → Wanted flow i → 1 ≤ i
-wanted-first flow zero h = let z : _≡_ {A = ℕ} 0 1 = cc in absurd (omega arith)
-wanted-first flow (suc i) h = omega arith
-
-pub wanted-last : (flow : Flow) (i : ℕ) → Wanted flow i → i ≤ length (flow .instructions)
-wanted-last flow i h = by (decLt (length (flow .instructions)) i)
-  where
-    by : Dec (length (flow .instructions) < i) → i ≤ length (flow .instructions)
-    by (yes l) = let q = past-plain flow i l in let z : _≡_ {A = ℕ} 0 1 = cc in absurd (omega arith)
-    by (no l) = omega arith
-
-pub flow-exits : (rows : RowsOf) (i : ℕ) → exitsAt (rows .instructions) (rows .count) i ≡ hasExits (instruction (flowOf rows) i)
+flow-exits : (rows : FlowRows) (i : ℕ) → exitsAt (rows .instructions) (rows .count) i ≡ hasExits (instruction (flowOf rows) i)
 unfolding flowOf
 flow-exits rows i = refl
 
--- ---- what is found, by its end
-pub found-at : (takes : ℕ → Bool) (n k : ℕ) (r : Found) → r ≡ At k → FirstIs takes n r → FirstIs takes n (At k)
-found-at takes n k r e h = subst (λ (x : Found). FirstIs takes n x) e h
+-- ---- what a text is asked for
+module _ {o : Checked Flow} (p : Planned) (i : ℕ) where
+  pub asked-refused : {why : Refusal} → o ≡ fault why → RefusedPlan why p → AskedIs o i p
+  unfolding AskedIs
+  asked-refused e h = subst⁻¹ (λ (x : Checked Flow). AskedIs x i p) e h
 
-pub found-none : (takes : ℕ → Bool) (n : ℕ) (r : Found) → r ≡ Nothing → FirstIs takes n r → FirstIs takes n Nothing
-found-none takes n r e h = subst (λ (x : Found). FirstIs takes n x) e h
+  module _ (rows : FlowRows) (e : o ≡ ok (flowOf rows)) where
+    by-exits : {b : Bool} → exitsAt (rows .instructions) (rows .count) i ≡ b → AskedFor (flowOf rows) b p → AskedIs o i p
+    unfolding AskedIs
+    by-exits x h =
+        subst⁻¹ (λ (x : Checked Flow). AskedIs x i p) e
+        (subst⁻¹ (λ (b : Bool). AskedFor (flowOf rows) b p) (sym (flow-exits rows i) ∙ x) h)
 
--- ---- C1 and C2 as they are passed on
-module _ {flow : Flow} {ops : List Op} {w : ℕ} {lo lo′ hi hi′ : ℤ} {i : ℕ} where
-  pub asked-at : {start : Words} → Asked flow ops w start lo hi i → lo′ ≡ lo → hi′ ≡ hi → Asked flow ops w start lo′ hi′ i
-  asked-at a p q = record { rows = a .rows; count = a .count; plan = a .plan; low = p ∙ a .low; high = q ∙ a .high; wanted = a .wanted }
+    pub asked-legal : exitsAt (rows .instructions) (rows .count) i ≡ true → LegalPlan (flowOf rows) p → AskedIs o i p
+    unfolding AskedFor
+    asked-legal x h = by-exits x h
 
-  pub finished-at : {cells : ℕ} {e : Entries} {n room : ℕ} → Finished flow cells e n room ops w lo hi i → lo′ ≡ lo → hi′ ≡ hi
-      → Finished flow cells e n room ops w lo′ hi′ i
-  finished-at f p q =
+    pub asked-plain : exitsAt (rows .instructions) (rows .count) i ≡ false → RefusedPlan NoSuchExit p → AskedIs o i p
+    unfolding AskedFor
+    asked-plain x h = by-exits x h
+
+-- ---- what is drawn for a planned flow
+module _ {flow : Flow} {ops : List Op} {w : ℕ} {start : Words} {lo hi lo′ hi′ : ℤ} where
+  -- C1 and C2 as they are passed on
+  pub plan-at : Plan flow ops w start lo hi → lo′ ≡ lo → hi′ ≡ hi → Plan flow ops w start lo′ hi′
+  plan-at plan p q =
       record {
-        start = f .start;
-        asked = asked-at (f .asked) p q;
-        held = f .held;
-        complete = f .complete;
-        parents = f .parents;
-        walkable = f .walkable;
-        path-room = f .path-room;
+        legal = plan .legal;
+        prepared = plan .prepared;
+        width = plan .width;
+        begins = plan .begins;
+        low = p ∙ plan .low;
+        high = q ∙ plan .high;
       }
 
--- ---- an exit that is asked for
-module _ {flow : Flow} {ops : List Op} {w : ℕ} {start : Words} {lo hi : ℤ} {i : ℕ} (a : Asked flow ops w start lo hi i) where
-  pub asked-fit : Fit lo hi w flow
-  asked-fit = rw (a .low, a .high) (fits (a .plan))
-
-  pub asked-prepared : Prepared lo flow ops
-  asked-prepared = rw (a .low) (prepared (a .plan))
-
-  pub asked-low : T (leZ (negsuc 9998) lo)
-  asked-low = let l = legal-limited flow (a .plan .legal) .0 .0 in rw (a .low) (omega zarith)
-
-  pub asked-high : T (leZ hi (pos 9999))
-  asked-high = let l = legal-limited flow (a .plan .legal) .1 .1 in rw (a .high) (omega zarith)
-
-  pub asked-first : 1 ≤ i
-  asked-first = wanted-first flow i (a .wanted)
-
-  pub asked-last : i ≤ maxInstructions
-  asked-last = omega (arith, wanted-last flow i (a .wanted), a .plan .legal .size .1)
-
-  pub asked-op : getD ops (i - 1) blank ≡ opOf lo (instruction flow i)
-  asked-op =
-      let n : suc (i - 1) ≡ i = omega (arith, asked-first) in
-      asked-prepared .each (i - 1) (omega (arith, asked-first, asked-last)) ∙ ap (λ (j : ℕ). opOf lo (instruction flow j)) n
-
-  -- a finished search
-  pub asked-finished : {r : Rows} {cells n : ℕ} → TableDone (C1 flow) w flow r cells n
-      → Finished flow cells (entriesOf r) n (length (r .nexts)) ops w lo hi i
-  asked-finished {r} {cells} {n} f =
+module _ {flow : Flow} {ops : List Op} {w : ℕ} {start : Words} {lo hi : ℤ} (plan : Plan flow ops w start lo hi) where
+  -- what a finished search leaves in the rows is a table for an exit that is wanted
+  finished-tabled : {i : ℕ} → Wanted flow i → {r : Rows} {cells n : ℕ} → Finished (C1 flow) w flow r cells n
+      → Tabled flow (entriesOf r) n (length (r .nexts)) ops w lo hi i
+  finished-tabled wanted f =
       let x = f .filled .index in
       record {
-        start = start;
-        asked = a;
-        held =
-            record {
-              number = n;
-              count =
-                  record {
-                    list = map (configurationOf (C1 flow) w flow) (listed (wordsAt (entriesOf r)) n);
-                    census = complete-census (fits (a .plan)) (f .complete);
-                    is = length-complete (fits (a .plan)) (f .complete);
-                  };
-              few = f .within;
-            };
+        legal = plan .legal;
+        width = plan .width;
+        low = plan .low;
+        high = plan .high;
+        prepared = plan .prepared;
         complete = f .complete;
         parents = complete-parents (f .complete) (omega (arith, x .within, x .few)) (omega (arith, x .within, f .filled .distance-room))
             (omega (arith, x .within, f .filled .parent-room));
-        walkable = finished-walkable (a .plan) f;
+        walkable = finished-walkable plan f;
         path-room = omega (arith, x .within, x .next-room);
+        wanted = wanted;
       }
 
--- ---- a finished table
-module _ {flow : Flow} {cells : ℕ} {e : Entries} {n room : ℕ} {ops : List Op} {w : ℕ} {lo hi : ℤ} {i : ℕ}
-    (f : Finished flow cells e n room ops w lo hi i) where
-  complete : Complete lo w flow e n
-  complete = rw (f .asked .low) (f .complete)
+  finished-held : {r : Rows} {cells n : ℕ} → Finished (C1 flow) w flow r cells n → Held flow cells
+  finished-held {n = n} f = record { number = n; count = finished-count plan f refl; few = f .within }
 
-  -- the entry that is found for the exit
-  module _ (exit : Bool) {op : Op} (is : op ≡ getD ops (i - 1) blank) where
-    abbrev found : Found → Type 0
-    found r = FirstIs (takesAt w (e .places) (e .patterns) op i (exitIf exit)) n r
+-- there is a table only of a legal flow
+pub done-known : {legal : Bool} {ops : List Op} {w : ℕ} {start : Words} {r r′ : Rows} {found : Ends.Searched} → Explored legal w ops start r r′ found
+    → {n : ℕ} → found ≡ Done n → legal ≡ true
+done-known {legal} {ops} {w} {start} {r} {r′} x e = done-legal (subst (λ (y : Ends.Searched). Explored legal w ops start r r′ y) e x)
 
-    same-op : op ≡ opOf lo (instruction flow i)
-    same-op = is ∙ asked-op (f .asked)
+module _ {legal : Bool} {ops : List Op} {w : ℕ} {start : Words} {lo hi : ℤ} (i : ℕ) {r r′ : Rows} {found : Ends.Searched}
+    (x : Explored legal w ops start r r′ found) where
+  -- the table of a flow
+  module _ {flow : Flow} (given : legal ≡ true → Plan flow ops w start lo hi × Wanted flow i) {n : ℕ} (e : found ≡ Done n) where
+    known : legal ≡ true
+    known = done-known x e
 
-    pub nothing-answered : (row : List ℤ) {r : SampleAnswer} → found Nothing → r ≡ bare Never
-        → Answered flow i (exitIf exit) cells row row r (r .end)
-    unfolding Answered
-    nothing-answered row {r} h q =
-        subst⁻¹ (λ (x : SampleEnd). Answered flow i (exitIf exit) cells row row r x) (ap (λ (x : SampleAnswer). x .end) q)
-        (record {
-          wanted = f .asked .wanted;
-          held = f .held;
-          none-takes = found-nothing (asked-fit (f .asked)) complete i (exitIf exit) op same-op h;
-          answer = q;
-          same-row = refl;
-        })
+    finished : Finished (C1 flow) w flow r′ (cellsOf r) n
+    finished =
+        explored-done (given known .0)
+        (subst (λ (b : Bool). Explored b w ops start r r′ (Done n)) known (subst (λ (y : Ends.Searched). Explored legal w ops start r r′ y) e x))
 
-    module _ (k : ℕ) (h : found (At k)) where
-      pub found-below : k < n
-      found-below = found-stored (asked-fit (f .asked)) complete i (exitIf exit) op same-op k h
+    pub done-tabled : Tabled flow (entriesOf r′) n (length (r′ .nexts)) ops w lo hi i
+    done-tabled = finished-tabled (given known .0) (given known .1) finished
 
-      pub found-room : distanceOf e k < room
-      found-room = omega (arith, found-below, f .walkable .near k found-below, f .path-room)
+    -- what is drawn is what is picked from it
+    pub done-drawn : (e : Exit) (row row′ : List ℤ) (r″ : Rows) (k : Picked) (d : Drawn) → d ≡ drawnOf k
+        → PickedIs flow i e row row′ k (k .outcome) → (k .outcome ≡ Outcomes.the-variants.Short → Zeroed r r″)
+        → DrawnIs legal flow i e r r″ row row′ d (d .ending)
+    unfolding PickedIs DrawnIs
+    done-drawn e row row′ r″ k d q h z =
+        subst⁻¹ (λ (y : Drawn). DrawnIs legal flow i e r r″ row row′ y (y .ending)) q (go (k .outcome) h z)
+      where
+        go : (o : Outcomes.Outcome) → PickedIs flow i e row row′ k o → (o ≡ Outcomes.the-variants.Short → Zeroed r r″)
+            → DrawnIs legal flow i e r r″ row row′ (drawnOf k) (endingOf o)
+        go Outcomes.the-variants.Taken h z = (known, finished-held (given known .0) finished, h)
+        go Outcomes.the-variants.Never h z = (known, finished-held (given known .0) finished, h .0, h .1)
+        go Outcomes.the-variants.Short h z = (known, finished-held (given known .0) finished, h .0, h .1, z refl)
 
-      -- its distance, as a number that the code holds
-      module _ {last : ℕ} (is-last : last ≡ distanceOf e k) where
-        found-far : Distance flow i (exitIf exit) (suc last)
-        found-far =
-            subst⁻¹ (λ (m : ℕ). Distance flow i (exitIf exit) (suc m)) is-last
-            (found-distance (asked-fit (f .asked)) complete i (exitIf exit) op same-op k h)
+  pub full-drawn : {flow : Flow} → (legal ≡ true → Plan flow ops w start lo hi × Wanted flow i) → found ≡ Full → (e : Exit) (row : List ℤ) (d : Drawn)
+      → d .ending ≡ Endings.the-variants.Full → DrawnIs legal flow i e r r′ row row d (d .ending)
+  unfolding DrawnIs
+  full-drawn {flow} given q e row d is =
+      subst⁻¹ (λ (y : Endings.Ending). DrawnIs legal flow i e r r′ row row d y) is (
+        λ l. explored-full (given l .0) (subst (λ (b : Bool). Explored b w ops start r r′ Full) l (subst (λ (y : Ends.Searched). Explored legal w ops start r r′ y) q x)),
+        refl,
+        x .cells-zero q,
+      )
 
-        pub short-answered : (row : List ℤ) {r : SampleAnswer} → length row ≤ last → r ≡ bare (Refused ShortRow)
-            → Answered flow i (exitIf exit) cells row row r (r .end)
-        unfolding Answered
-        short-answered row {r} l q =
-            subst⁻¹ (λ (x : SampleEnd). Answered flow i (exitIf exit) cells row row r x) (ap (λ (x : SampleAnswer). x .end) q)
-            (short-row (f .asked .wanted) (f .held) (record { needed = suc last; distance = found-far; short = omega arith }), record { answer = q; same-row = refl })
+-- ---- the promise
+module _ (i : ℕ) (exit : Bool) (r r′ : Rows) (row row′ : List ℤ) (p : Planned) (d : Drawn) where
+  abbrev Promise : Checked Flow → SampleAnswer → Type 0
+  Promise o x = SampleOf o i (exitIf exit) (cellsOf r) row row′ x × ((why : Refusal) → x .end ≡ Refused why → Zeroed r r′)
 
-        module _ {path : List ℕ} (long : length path ≡ room) (traced : Traced (e .distances) (e .parents) path n k (distanceOf e k)) where
-          way : Traced (e .distances) (e .parents) path n k last
-          way = subst⁻¹ (λ (m : ℕ). Traced (e .distances) (e .parents) path n k m) is-last traced
+  -- a legal flow with the exit
+  legal-promise : {flow : Flow} (y : Endings.Ending) → LegalPlan flow p → Wanted flow i → DrawnIs (p .legal) flow i (exitIf exit) r r′ row row′ d y
+      → Promise (ok flow) (sampleAnswer d (p .why) y)
+  unfolding SampleOf Answered DrawnIs
+  legal-promise Endings.the-variants.Taken l w (t, held, written) =
+      (record { wanted = w; held = held; written = written }, λ why q. let z : _≡_ {A = ℕ} 0 1 = cc in absurd (omega arith))
+  legal-promise Endings.the-variants.Never l w (t, held, none, same) =
+      (record { wanted = w; held = held; none-takes = none; answer = refl; same-row = same }, λ why q. let z : _≡_ {A = ℕ} 0 1 = cc in absurd (omega arith))
+  legal-promise Endings.the-variants.Short l w (t, held, short, same, cleared) =
+      ((short-row w held short, record { answer = refl; same-row = same }), λ why q. cleared)
+  legal-promise {flow} Endings.the-variants.Full l w (full, same, cleared) =
+      subst⁻¹ (λ (x : Refusal). Promise (ok flow) (bare (Refused x))) (l .reason)
+      ((too-few-cells w (full (l .legal)), record { answer = refl; same-row = same }), λ why q. cleared)
 
-          abbrev found-course : Course
-          found-course = course (e .places) (e .patterns) path last ops w lo hi
+  -- a refusal: nothing is drawn
+  refused-promise : (o : Checked Flow) (flow : Flow) (y : Endings.Ending) → p .legal ≡ false
+      → (row′ ≡ row → SampleOf o i (exitIf exit) (cellsOf r) row row′ (bare (Refused (p .why))))
+      → DrawnIs (p .legal) flow i (exitIf exit) r r′ row row′ d y → Promise o (sampleAnswer d (p .why) y)
+  unfolding DrawnIs
+  refused-promise o flow Endings.the-variants.Taken l h (t, held, written) = let z : _≡_ {A = ℕ} 0 1 = cc in absurd (omega arith)
+  refused-promise o flow Endings.the-variants.Never l h (t, held, none, same) = let z : _≡_ {A = ℕ} 0 1 = cc in absurd (omega arith)
+  refused-promise o flow Endings.the-variants.Short l h (t, held, short, same, cleared) = let z : _≡_ {A = ℕ} 0 1 = cc in absurd (omega arith)
+  refused-promise o flow Endings.the-variants.Full l h (full, same, cleared) = (h same, λ why q. cleared)
 
-          pub found-leads : Leads found-course flow
-          found-leads =
-              traced-leads (asked-fit (f .asked)) complete (f .parents) way ops (asked-low (f .asked)) (asked-high (f .asked))
-              (asked-prepared (f .asked)) (f .walkable) (omega (arith, found-room))
+  module _ (drawn : (flow : Flow) → (p .legal ≡ true → Plan flow (p .ops) (p .w) (p .start) (p .lo) (p .hi) × Wanted flow i)
+      → DrawnIs (p .legal) flow i (exitIf exit) r r′ row row′ d (d .ending)) where
+    nothing : p .legal ≡ false → DrawnIs (p .legal) noFlow i (exitIf exit) r r′ row row′ d (d .ending)
+    nothing l = drawn noFlow (λ q. let z : _≡_ {A = ℕ} 0 1 = cc in absurd (omega arith))
 
-          found-end : Ends found-course flow exit × (endOf found-course ≡ i)
-          found-end = found-ends (asked-fit (f .asked)) complete (f .parents) way ops i exit op same-op h
+    by-flow : (flow : Flow) (b : Bool) → hasExits (instruction flow i) ≡ b → AskedFor flow b p → Promise (ok flow) (sampleAnswer d (p .why) (d .ending))
+    unfolding SampleOf Answered AskedFor
+    by-flow flow true e l = legal-promise (d .ending) l e (drawn flow (λ q. (l .plan, e)))
+    by-flow flow false e l =
+        refused-promise (ok flow) noFlow (d .ending) (l .legal)
+        (λ same. subst⁻¹ (λ (x : Refusal). SampleOf (ok flow) i (exitIf exit) (cellsOf r) row row′ (bare (Refused x))) (l .reason)
+        (no-such-exit e, record { answer = refl; same-row = same }))
+        (nothing (l .legal))
 
-          pub found-ending : Ends found-course flow exit
-          found-ending = found-end .0
+    promise : (o : Checked Flow) → AskedIs o i p → Promise o (sampleAnswer d (p .why) (d .ending))
+    unfolding SampleOf AskedIs
+    promise (ok flow) h = by-flow flow (hasExits (instruction flow i)) refl h
+    promise (fault why) l =
+        refused-promise (fault why) noFlow (d .ending) (l .legal) (λ same. record { answer = ap (λ (x : Refusal). bare (Refused x)) (l .reason); same-row = same })
+        (nothing (l .legal))
 
-          pub taken-answered : {row row′ : List ℤ} {r : SampleAnswer} → last < length row → Written found-course flow exit row row′ (r .lengths)
-              → length (r .lengths) ≡ 3 → r .distance ≡ last + 1 → r .end ≡ Taken → Answered flow i (exitIf exit) cells row row′ r (r .end)
-          unfolding Answered
-          taken-answered {row} {row′} {r} l t three d q =
-              let far : suc last ≡ r .distance = omega arith in
-              let tapes = tapesIn (take (flow .tapes) (r .lengths)) row′ in
-              let s : Sample lo hi flow i (exitIf exit) (r .distance) tapes =
-              subst (λ (m : ℕ). Sample lo hi flow i (exitIf exit) m tapes) far
-              (subst (λ (j : ℕ). Sample lo hi flow j (exitIf exit) (suc last) tapes) (found-end .1) (t .sample)) in
-              subst⁻¹ (λ (x : SampleEnd). Answered flow i (exitIf exit) cells row row′ r x) q
-              (record {
-                wanted = f .asked .wanted;
-                held = f .held;
-                sample = subst (λ (z : ℤ). Sample (C1 flow) z flow i (exitIf exit) (r .distance) tapes) (f .asked .high)
-                    (subst (λ (z : ℤ). Sample z hi flow i (exitIf exit) (r .distance) tapes) (f .asked .low) s);
-                three = three;
-                idle = t .idle;
-                few = omega (arith, t .few);
-                room = omega arith;
-                size = t .size;
-                beyond = t .beyond;
-              })
+    pub sample-is : (text : List ℕ) {a : SampleAnswer} → AskedIs (readFlow text) i p → a ≡ sampleAnswer d (p .why) (d .ending) → SampleIs text i exit r r′ row row′ a
+    sample-is text h q =
+        let s = subst⁻¹ (Promise (readFlow text)) q (promise (readFlow text) h) in
+        record { answer = s .0; cells-zero = s .1 }
 
--- ---- refusals of a legal flow, and of a text
-module _ {flow : Flow} {i : ℕ} {e : Exit} {cells : ℕ} {row : List ℤ} {r : SampleAnswer} where
-  pub refused-answered : {why : Refusal} → Reason flow i e cells row why → r ≡ bare (Refused why) → Answered flow i e cells row row r (r .end)
-  unfolding Answered
-  refused-answered {why} c q =
-      subst⁻¹ (λ (x : SampleEnd). Answered flow i e cells row row r x) (ap (λ (x : SampleAnswer). x .end) q)
-      (c, record { answer = q; same-row = refl })
-
-pub text-denied : (text : List ℕ) (i : ℕ) (e : Exit) (cells : ℕ) (row : List ℤ) {r : SampleAnswer} {why : Refusal} → readFlow text ≡ fault why
-    → r ≡ bare (Refused why) → SampleOf (readFlow text) i e cells row row r
-unfolding SampleOf
-text-denied text i e cells row {r} h q =
-    subst⁻¹ (λ (o : Checked Flow). SampleOf o i e cells row row r) h (record { answer = q; same-row = refl })
-
-pub text-answered : (text : List ℕ) {flow : Flow} (i : ℕ) (e : Exit) (cells : ℕ) (row row′ : List ℤ) (r : SampleAnswer) → readFlow text ≡ ok flow
-    → Answered flow i e cells row row′ r (r .end) → SampleOf (readFlow text) i e cells row row′ r
-unfolding SampleOf
-text-answered text {flow} i e cells row row′ r h a = subst⁻¹ (λ (o : Checked Flow). SampleOf o i e cells row row′ r) h a
-
--- ---- the promise, by the answer's end: a refusal zeroes the work rows
-module _ {text : List ℕ} {i : ℕ} {exit : Bool} {rows : Rows} (rows′ : Rows) {row row′ : List ℤ} {r : SampleAnswer}
-    (a : SampleOf (readFlow text) i (exitIf exit) (cellsOf rows) row row′ r) where
-  pub taken-is : r .end ≡ Taken → SampleIs text i exit rows rows′ row row′ r
-  taken-is e = record { answer = a; cells-zero = λ why q. let z : _≡_ {A = ℕ} 0 1 = cc in absurd (omega arith) }
-
-  pub never-is : r .end ≡ Never → SampleIs text i exit rows rows′ row row′ r
-  never-is e = record { answer = a; cells-zero = λ why q. let z : _≡_ {A = ℕ} 0 1 = cc in absurd (omega arith) }
-
-  pub refused-is : Zeroed rows rows′ → SampleIs text i exit rows rows′ row row′ r
-  refused-is z = record { answer = a; cells-zero = λ why q. z }
+-- what is asked for is searched by its plan
+module _ (i : ℕ) (p : Planned) where
+  pub asked-planned : (o : Checked Flow) → AskedIs o i p → p .legal ≡ true
+      → ((flow : Flow) × Plan flow (p .ops) (p .w) (p .start) (p .lo) (p .hi) × Wanted flow i)
+  unfolding AskedIs AskedFor
+  asked-planned (ok flow) h e = go (hasExits (instruction flow i)) refl h
+    where
+      go : (b : Bool) → hasExits (instruction flow i) ≡ b → AskedFor flow b p
+          → ((flow : Flow) × Plan flow (p .ops) (p .w) (p .start) (p .lo) (p .hi) × Wanted flow i)
+      go true w l = (flow, l .plan, w)
+      go false w l = let q = l .legal in let z : _≡_ {A = ℕ} 0 1 = cc in absurd (omega arith)
+  asked-planned (fault why) l e = let q = l .legal in let z : _≡_ {A = ℕ} 0 1 = cc in absurd (omega arith)

@@ -1,7 +1,8 @@
 // The tape maker: what a maker calls. Each function takes a flow as text, refuses a faulty request itself, and has no condition on
 // its caller; specs/ has one definition for each.
 mod running; // running.rt: the request for a run
-mod reporting; // reporting.rt: the report of a flow that was read
+mod planning; // planning.rt: what a text is searched by, and the search
+mod reporting; // reporting.rt: the report of a planned flow
 mod sampling; // sampling.rt: the sample for one exit
 
 ghost use lib.ListN.{length};
@@ -88,25 +89,25 @@ pub fn report(
         (rows (now (places .exit)) (now (patterns .exit)) (now (distances .exit)) (now (parents .exit)) (now (heads .exit)) (now (nexts .exit)) (now (fans .exit)))
         r ⌝ }
 {
-    let reading = flow::read(text);
-    let answer = reading.answer;
-    let flow = reading.flow;
-    match answer {
-        Answer::Refused(r) => {
-            cells::clear(places, patterns, distances, parents, heads, nexts, fans);
-            reporting::refused(r)
-        }
-        Answer::Legal => reporting::report_flow(
-            places,
-            patterns,
-            distances,
-            parents,
-            heads,
-            nexts,
-            fans,
-            flow,
-        ),
-    }
+    let plan = planning::plan(text);
+    let legal = plan.legal;
+    let ops = plan.ops;
+    let w = plan.w;
+    let start = plan.start;
+    let found = planning::explore(
+        places,
+        patterns,
+        distances,
+        parents,
+        heads,
+        nexts,
+        fans,
+        legal,
+        ops,
+        w,
+        start,
+    );
+    reporting::answer(places, patterns, distances, found, plan)
 }
 
 // Whether a sample was taken, or no tapes take the exit.
@@ -143,10 +144,14 @@ pub fn sample(
         (rows (now (places .exit)) (now (patterns .exit)) (now (distances .exit)) (now (parents .exit)) (now (heads .exit)) (now (nexts .exit)) (now (fans .exit)))
         (now (row .entry)) (now (row .exit)) r ⌝ }
 {
-    let answer = sampling::answered(
-        text,
-        instruction,
-        exit,
+    let plan = sampling::asked(text, instruction);
+    let legal = plan.legal;
+    let ops = plan.ops;
+    let w = plan.w;
+    let start = plan.start;
+    let lo = plan.lo;
+    let hi = plan.hi;
+    let drawn = sampling::draw(
         places,
         patterns,
         distances,
@@ -154,17 +159,18 @@ pub fn sample(
         heads,
         nexts,
         fans,
+        legal,
+        ops,
+        w,
+        start,
+        lo,
+        hi,
+        instruction,
+        exit,
         row,
     );
-    let end = answer.end;
-    match end {
-        SampleEnd::Taken => answer,
-        SampleEnd::Never => answer,
-        SampleEnd::Refused(_) => {
-            cells::clear(places, patterns, distances, parents, heads, nexts, fans);
-            answer
-        }
-    }
+    let why = plan.why;
+    sampling::answer(drawn, why)
 }
 
 // The part of the record row that holds the records of one tape, counted from 1, by the lengths that came with the sample.

@@ -1,28 +1,24 @@
-// The report of a flow that was read.
+// The report of a planned flow.
 ghost use mathlib.Core.Path.{_≡_};
 ghost use mathlib.Core.Bool.{false};
-ghost use Prim.Native.Nat.{_≤_};
-ghost use Rattle.model.specs.Language.{Flow as FlowM, hasExits};
-ghost use Rattle.flow.specs.Code.{flowOf};
-ghost use Rattle.flow.specs.Legal.{Legal};
-ghost use Rattle.configuration.specs.Op.{opOf};
-ghost use Rattle.cells.specs.Cells.{rows};
-ghost use Rattle.table.specs.Passes.{blank};
-ghost use Rattle.tape_maker.specs.Report.{refusal, Searched};
-ghost use Rattle.tape_maker.specs.Inner.{exitsIn, Each, GivenIs, Plan};
+ghost use Prim.Native.Nat.{ℕ, _≤_};
+ghost use Rattle.model.specs.Language.{hasExits};
+ghost use Rattle.configuration.specs.Pattern.{Width};
+ghost use Rattle.table.specs.Passes.{Walkable};
+ghost use Rattle.tape_maker.specs.Report.{refusal};
+ghost use Rattle.tape_maker.specs.Inner.{exitsIn, Each, GivenIs, AnswerIs};
 use crate::ReportAnswer;
 use crate::ReportEnd;
-use configuration::Op;
-use configuration::Words;
-use configuration::constants;
+use crate::planning::Planned;
 use flow::Flow;
 use flow::Instruction;
 use flow::Refusal;
 use flow::lent;
+use search::Searched;
 use table::Distances;
 
 // The answer for a refusal.
-pub fn refused(r: Refusal) -> ReportAnswer
+fn refused(r: Refusal) -> ReportAnswer
     ensures { λ a. ⌜ a ≡ refusal r ⌝ }
 {
     ReportAnswer {
@@ -61,25 +57,6 @@ fn twos(
     two
 }
 
-// The instructions, prepared for the search.
-pub fn prepare(
-    instructions: [Instruction; Flow::MAX_INSTRUCTIONS],
-    count: usize,
-    lo: i32,
-) -> [Op; Flow::MAX_INSTRUCTIONS]
-    requires { ⌜ count ≤ 64 ⌝ }
-    ensures { λ r. ⌜ Each (opOf lo) blank instructions count r ⌝ }
-{
-    let mut ops = [Op::stop(); Flow::MAX_INSTRUCTIONS];
-    let mut i = 0;
-    while i < count {
-        let x = lent::row_at(instructions, i);
-        ops[i] = constants::prepare(x, lo);
-        i += 1;
-    }
-    ops
-}
-
 // The report of a finished table of n entries.
 fn given(
     instructions: [Instruction; Flow::MAX_INSTRUCTIONS],
@@ -102,87 +79,30 @@ fn given(
     }
 }
 
-// Searches the configurations of a flow, and lists the distances of its exits.
-fn listed(
-    places: &mut [u64],
-    patterns: &mut [u64],
-    distances: &mut [u32],
-    parents: &mut [u32],
-    heads: &mut [u32],
-    nexts: &mut [u32],
-    fans: &mut [u8],
-    instructions: [Instruction; Flow::MAX_INSTRUCTIONS],
-    count: usize,
-    ops: [Op; Flow::MAX_INSTRUCTIONS],
-    w: u64,
-    start: Words,
+// The report of a planned flow by what the search found.
+pub fn answer(
+    places: &[u64],
+    patterns: &[u64],
+    distances: &[u32],
+    found: Searched,
+    plan: Planned,
 ) -> ReportAnswer
-    requires { ⌜ ((flow : FlowM) × Plan flow instructions count ops w start) ⌝ }
-    ensures { λ r. ⌜ ((flow : FlowM) → Plan flow instructions count ops w start → Searched flow
-        (rows (now (places .entry)) (now (patterns .entry)) (now (distances .entry)) (now (parents .entry)) (now (heads .entry)) (now (nexts .entry)) (now (fans .entry)))
-        (rows (now (places .exit)) (now (patterns .exit)) (now (distances .exit)) (now (parents .exit)) (now (heads .exit)) (now (nexts .exit)) (now (fans .exit)))
-        r (r .end)) ⌝ }
+    requires { ⌜ ((n : ℕ) → found ≡ Searched.Done n
+        → (plan .count ≤ 64) × Width (plan .w) × Walkable (now places) (now patterns) (now distances) n) ⌝ }
+    ensures { λ r. ⌜ AnswerIs (now (places .entry)) (now (patterns .entry)) (now (distances .entry)) plan r found ⌝ }
 {
-    let found = search::search(
-        places,
-        patterns,
-        distances,
-        parents,
-        heads,
-        nexts,
-        fans,
-        ops,
-        w,
-        start,
-    );
     match found {
-        search::Searched::Done(n) => {
+        Searched::Done(n) => {
+            let ops = plan.ops;
+            let w = plan.w;
             let d = table::exits(places, patterns, distances, n, ops, w);
+            let instructions = plan.instructions;
+            let count = plan.count;
             given(instructions, count, n, d)
         }
-        search::Searched::Full => {
-            cells::clear(places, patterns, distances, parents, heads, nexts, fans);
-            refused(Refusal::TooFewCells)
+        Searched::Full => {
+            let why = plan.why;
+            refused(why)
         }
     }
-}
-
-// The report of a legal flow.
-pub fn report_flow(
-    places: &mut [u64],
-    patterns: &mut [u64],
-    distances: &mut [u32],
-    parents: &mut [u32],
-    heads: &mut [u32],
-    nexts: &mut [u32],
-    fans: &mut [u8],
-    flow: Flow,
-) -> ReportAnswer
-    requires { ⌜ Legal (flowOf flow) × (flow .count ≤ 64) ⌝ }
-    ensures { λ r. ⌜ Searched (flowOf flow)
-        (rows (now (places .entry)) (now (patterns .entry)) (now (distances .entry)) (now (parents .entry)) (now (heads .entry)) (now (nexts .entry)) (now (fans .entry)))
-        (rows (now (places .exit)) (now (patterns .exit)) (now (distances .exit)) (now (parents .exit)) (now (heads .exit)) (now (nexts .exit)) (now (fans .exit)))
-        r (r .end) ⌝ }
-{
-    let range = constants::range_of(flow);
-    let lo = range.lo;
-    let w = constants::width(range);
-    let instructions = flow.instructions;
-    let count = flow.count;
-    let ops = prepare(instructions, count, lo);
-    let start = configuration::start(lo);
-    listed(
-        places,
-        patterns,
-        distances,
-        parents,
-        heads,
-        nexts,
-        fans,
-        instructions,
-        count,
-        ops,
-        w,
-        start,
-    )
 }

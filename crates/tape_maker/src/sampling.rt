@@ -1,47 +1,40 @@
-// A sample for one exit of a flow.
+// A sample for one exit of a planned flow.
 ghost use mathlib.Core.Path.{_≡_};
-ghost use Prim.Native.Nat.{ℕ, _≤_};
+ghost use mathlib.Core.Bool.{true};
+ghost use Prim.Native.Nat.{_≤_};
 ghost use lib.ListN.{length};
 ghost use Rattle.model.specs.Language.{Flow as FlowM};
 ghost use Rattle.model.specs.Machine.{exitIf};
-ghost use Rattle.flow.specs.Code.{flowOf};
-ghost use Rattle.flow.specs.Legal.{Legal};
 ghost use Rattle.flow.specs.Read.{readFlow};
-ghost use Rattle.cells.specs.Cells.{rows, cellsOf};
+ghost use Rattle.cells.specs.Cells.{rows, Zeroed};
 ghost use Rattle.cells.specs.Entries.{entries};
-ghost use Rattle.tape_maker.specs.Sample.{Wanted, bare, Answered, SampleOf};
-ghost use Rattle.tape_maker.specs.Inner.{exitsAt, Asked, Finished};
+ghost use Rattle.sample.specs.Sampling.{Tabled};
+ghost use Rattle.sample.specs.Picking.{PickedIs};
+ghost use Rattle.tape_maker.specs.Sample.{Wanted, bare};
+ghost use Rattle.tape_maker.specs.Inner.{exitsAt, Plan, AskedIs, drawnOf, DrawnIs, sampleAnswer};
 use crate::SampleAnswer;
 use crate::SampleEnd;
 use crate::TAPES;
+use crate::planning;
+use crate::planning::Planned;
 use crate::reporting;
-use cells::Found;
 use configuration::Op;
 use configuration::Words;
-use configuration::constants;
 use flow::Answer;
 use flow::Flow;
 use flow::Instruction;
 use flow::Refusal;
 use flow::lent;
+use sample::Outcome;
+use sample::Picked;
+use search::Searched;
 
-// The answer for a refusal.
-fn refused(r: Refusal) -> SampleAnswer
-    ensures { λ a. ⌜ a ≡ bare (SampleEnd.Refused r) ⌝ }
+// An answer without a sample.
+fn without(end: SampleEnd) -> SampleAnswer
+    ensures { λ a. ⌜ a ≡ bare end ⌝ }
 {
     SampleAnswer {
-        end: SampleEnd::Refused(r),
-        distance: 0,
-        lengths: [0; TAPES],
-    }
-}
-
-// The answer for an exit that no tapes take.
-fn never() -> SampleAnswer
-    ensures { λ a. ⌜ a ≡ bare SampleEnd.Never ⌝ }
-{
-    SampleAnswer {
-        end: SampleEnd::Never,
+        end,
         distance: 0,
         lengths: [0; TAPES],
     }
@@ -63,14 +56,68 @@ fn has_exits(instructions: [Instruction; Flow::MAX_INSTRUCTIONS], count: usize, 
     reporting::has_two(x)
 }
 
-// The answer for an exit from a finished table of n entries: the way to the nearest entry that takes it is written into path, and the
-// records that are read on it into row.
-fn picked(
-    places: &[u64],
-    patterns: &[u64],
-    distances: &[u32],
-    parents: &[u32],
-    path: &mut [u32],
+// The plan of a text for a wish for an exit of instruction number i: it is refused, too, if the flow has no such exit.
+pub fn asked(text: &[u8], i: usize) -> Planned
+    ensures { λ r. ⌜ AskedIs (readFlow (now (text .entry))) i r ⌝ }
+{
+    let reading = flow::read(text);
+    let answer = reading.answer;
+    let flow = reading.flow;
+    match answer {
+        Answer::Refused(why) => planning::refused(why, flow),
+        Answer::Legal => {
+            let instructions = flow.instructions;
+            let count = flow.count;
+            if has_exits(instructions, count, i) {
+                return planning::plan_flow(flow);
+            }
+            planning::refused(Refusal::NoSuchExit, flow)
+        }
+    }
+}
+
+// How the drawing of a sample ends; `Full` if there was no table to draw it from.
+pub enum Ending {
+    Taken,
+    Never,
+    Short,
+    Full,
+}
+
+// What is drawn for an exit: of a sample its distance, and the lengths of the tapes in the record row.
+pub struct Drawn {
+    pub ending: Ending,
+    pub distance: usize,
+    pub lengths: [usize; TAPES],
+}
+
+// What was picked from a table.
+fn drawing(picked: Picked) -> Drawn
+    ensures { λ r. ⌜ r ≡ drawnOf picked ⌝ }
+{
+    let outcome = picked.outcome;
+    let lengths = picked.lengths;
+    let ending = match outcome {
+        Outcome::Taken => Ending::Taken,
+        Outcome::Never => Ending::Never,
+        Outcome::Short => Ending::Short,
+    };
+    Drawn {
+        ending,
+        distance: picked.distance,
+        lengths,
+    }
+}
+
+// Picks a sample for an exit from a finished table of n entries; if the row is too short, every work cell is zeroed.
+fn pick(
+    places: &mut [u64],
+    patterns: &mut [u64],
+    distances: &mut [u32],
+    parents: &mut [u32],
+    heads: &mut [u32],
+    nexts: &mut [u32],
+    fans: &mut [u8],
     n: usize,
     ops: [Op; Flow::MAX_INSTRUCTIONS],
     w: u64,
@@ -79,48 +126,46 @@ fn picked(
     instruction: usize,
     exit: bool,
     row: &mut [i32],
-) -> SampleAnswer
-    requires { ⌜ ((flow : FlowM) × (cells : ℕ) × Finished flow cells (entries (now places) (now patterns) (now distances) (now parents)) n
-        (length (now path)) ops w lo hi instruction) ⌝ }
-    ensures { λ r. ⌜ ((flow : FlowM) (cells : ℕ)
-        → Finished flow cells (entries (now (places .entry)) (now (patterns .entry)) (now (distances .entry)) (now (parents .entry))) n
-        (length (now (path .entry))) ops w lo hi instruction
-        → Answered flow instruction (exitIf exit) cells (now (row .entry)) (now (row .exit)) r (r .end)) ⌝ }
+) -> Picked
+    requires { ⌜ ((flow : FlowM)
+        × Tabled flow (entries (now places) (now patterns) (now distances) (now parents)) n (length (now nexts)) ops w lo hi instruction) ⌝ }
+    ensures { λ r. ⌜ ((flow : FlowM)
+        → Tabled flow (entries (now (places .entry)) (now (patterns .entry)) (now (distances .entry)) (now (parents .entry))) n
+        (length (now (nexts .entry))) ops w lo hi instruction
+        → PickedIs flow instruction (exitIf exit) (now (row .entry)) (now (row .exit)) r (r .outcome)) ⌝ }
+    ensures { λ r. ⌜ (r .outcome ≡ Outcome.Short → Zeroed
+        (rows (now (places .entry)) (now (patterns .entry)) (now (distances .entry)) (now (parents .entry)) (now (heads .entry)) (now (nexts .entry)) (now (fans .entry)))
+        (rows (now (places .exit)) (now (patterns .exit)) (now (distances .exit)) (now (parents .exit)) (now (heads .exit)) (now (nexts .exit)) (now (fans .exit)))) ⌝ }
 {
-    let at = instruction - 1;
-    let op = ops[at];
-    let found = table::nearest(places, patterns, n, op, w, instruction, exit);
-    match found {
-        Found::Nothing => never(),
-        Found::At(k) => {
-            let d = table::wide(distances[k]);
-            if row.len() <= d {
-                return refused(Refusal::ShortRow);
-            }
-            cells::trace(distances, parents, path, n, k);
-            let lengths = sample::write_sample(
-                places,
-                patterns,
-                path,
-                d,
-                ops,
-                w,
-                lo,
-                hi,
-                exit,
-                row,
-            );
-            SampleAnswer {
-                end: SampleEnd::Taken,
-                distance: d + 1,
-                lengths,
-            }
+    let picked = sample::sample_for(
+        places,
+        patterns,
+        distances,
+        parents,
+        nexts,
+        n,
+        ops,
+        w,
+        lo,
+        hi,
+        instruction,
+        exit,
+        row,
+    );
+    let outcome = picked.outcome;
+    match outcome {
+        Outcome::Taken => picked,
+        Outcome::Never => picked,
+        Outcome::Short => {
+            cells::clear(places, patterns, distances, parents, heads, nexts, fans);
+            picked
         }
     }
 }
 
-// Searches the configurations of a flow, and answers for an exit that exists.
-fn searched(
+// Searches the configurations of a planned flow, and draws a sample for an exit that exists. Without a table, and if the row is too short, every
+// work cell is zeroed.
+pub fn draw(
     places: &mut [u64],
     patterns: &mut [u64],
     distances: &mut [u32],
@@ -128,6 +173,7 @@ fn searched(
     heads: &mut [u32],
     nexts: &mut [u32],
     fans: &mut [u8],
+    legal: bool,
     ops: [Op; Flow::MAX_INSTRUCTIONS],
     w: u64,
     start: Words,
@@ -136,13 +182,15 @@ fn searched(
     instruction: usize,
     exit: bool,
     row: &mut [i32],
-) -> SampleAnswer
-    requires { ⌜ ((flow : FlowM) × Asked flow ops w start lo hi instruction) ⌝ }
-    ensures { λ r. ⌜ ((flow : FlowM) → Asked flow ops w start lo hi instruction → Answered flow instruction (exitIf exit)
-        (cellsOf (rows (now (places .entry)) (now (patterns .entry)) (now (distances .entry)) (now (parents .entry)) (now (heads .entry)) (now (nexts .entry)) (now (fans .entry))))
-        (now (row .entry)) (now (row .exit)) r (r .end)) ⌝ }
+) -> Drawn
+    requires { ⌜ (legal ≡ true → ((flow : FlowM) × Plan flow ops w start lo hi × Wanted flow instruction)) ⌝ }
+    ensures { λ r. ⌜ ((flow : FlowM) → (legal ≡ true → Plan flow ops w start lo hi × Wanted flow instruction)
+        → DrawnIs legal flow instruction (exitIf exit)
+        (rows (now (places .entry)) (now (patterns .entry)) (now (distances .entry)) (now (parents .entry)) (now (heads .entry)) (now (nexts .entry)) (now (fans .entry)))
+        (rows (now (places .exit)) (now (patterns .exit)) (now (distances .exit)) (now (parents .exit)) (now (heads .exit)) (now (nexts .exit)) (now (fans .exit)))
+        (now (row .entry)) (now (row .exit)) r (r .ending)) ⌝ }
 {
-    let found = search::search(
+    let found = planning::explore(
         places,
         patterns,
         distances,
@@ -150,17 +198,20 @@ fn searched(
         heads,
         nexts,
         fans,
+        legal,
         ops,
         w,
         start,
     );
     match found {
-        search::Searched::Done(n) => picked(
+        Searched::Done(n) => drawing(pick(
             places,
             patterns,
             distances,
             parents,
+            heads,
             nexts,
+            fans,
             n,
             ops,
             w,
@@ -169,131 +220,31 @@ fn searched(
             instruction,
             exit,
             row,
-        ),
-        search::Searched::Full => refused(Refusal::TooFewCells),
+        )),
+        Searched::Full => Drawn {
+            ending: Ending::Full,
+            distance: 0,
+            lengths: [0; TAPES],
+        },
     }
 }
 
-// The answer for an exit that exists.
-fn sample_exit(
-    places: &mut [u64],
-    patterns: &mut [u64],
-    distances: &mut [u32],
-    parents: &mut [u32],
-    heads: &mut [u32],
-    nexts: &mut [u32],
-    fans: &mut [u8],
-    flow: Flow,
-    instruction: usize,
-    exit: bool,
-    row: &mut [i32],
-) -> SampleAnswer
-    requires { ⌜ Legal (flowOf flow) × (flow .count ≤ 64) × Wanted (flowOf flow) instruction ⌝ }
-    ensures { λ r. ⌜ Answered (flowOf flow) instruction (exitIf exit)
-        (cellsOf (rows (now (places .entry)) (now (patterns .entry)) (now (distances .entry)) (now (parents .entry)) (now (heads .entry)) (now (nexts .entry)) (now (fans .entry))))
-        (now (row .entry)) (now (row .exit)) r (r .end) ⌝ }
+// The answer for what was drawn, with the refusal if there was no table.
+pub fn answer(drawn: Drawn, why: Refusal) -> SampleAnswer
+    ensures { λ r. ⌜ r ≡ sampleAnswer drawn why (drawn .ending) ⌝ }
 {
-    let range = constants::range_of(flow);
-    let lo = range.lo;
-    let hi = range.hi;
-    let w = constants::width(range);
-    let instructions = flow.instructions;
-    let count = flow.count;
-    let ops = reporting::prepare(instructions, count, lo);
-    let start = configuration::start(lo);
-    searched(
-        places,
-        patterns,
-        distances,
-        parents,
-        heads,
-        nexts,
-        fans,
-        ops,
-        w,
-        start,
-        lo,
-        hi,
-        instruction,
-        exit,
-        row,
-    )
-}
-
-// The answer of a legal flow.
-fn sample_flow(
-    places: &mut [u64],
-    patterns: &mut [u64],
-    distances: &mut [u32],
-    parents: &mut [u32],
-    heads: &mut [u32],
-    nexts: &mut [u32],
-    fans: &mut [u8],
-    flow: Flow,
-    instruction: usize,
-    exit: bool,
-    row: &mut [i32],
-) -> SampleAnswer
-    requires { ⌜ Legal (flowOf flow) × (flow .count ≤ 64) ⌝ }
-    ensures { λ r. ⌜ Answered (flowOf flow) instruction (exitIf exit)
-        (cellsOf (rows (now (places .entry)) (now (patterns .entry)) (now (distances .entry)) (now (parents .entry)) (now (heads .entry)) (now (nexts .entry)) (now (fans .entry))))
-        (now (row .entry)) (now (row .exit)) r (r .end) ⌝ }
-{
-    let instructions = flow.instructions;
-    let count = flow.count;
-    if !has_exits(instructions, count, instruction) {
-        return refused(Refusal::NoSuchExit);
-    }
-    sample_exit(
-        places,
-        patterns,
-        distances,
-        parents,
-        heads,
-        nexts,
-        fans,
-        flow,
-        instruction,
-        exit,
-        row,
-    )
-}
-
-// The answer of a text.
-pub fn answered(
-    text: &[u8],
-    instruction: usize,
-    exit: bool,
-    places: &mut [u64],
-    patterns: &mut [u64],
-    distances: &mut [u32],
-    parents: &mut [u32],
-    heads: &mut [u32],
-    nexts: &mut [u32],
-    fans: &mut [u8],
-    row: &mut [i32],
-) -> SampleAnswer
-    ensures { λ r. ⌜ SampleOf (readFlow (now (text .entry))) instruction (exitIf exit)
-        (cellsOf (rows (now (places .entry)) (now (patterns .entry)) (now (distances .entry)) (now (parents .entry)) (now (heads .entry)) (now (nexts .entry)) (now (fans .entry))))
-        (now (row .entry)) (now (row .exit)) r ⌝ }
-{
-    let reading = flow::read(text);
-    let answer = reading.answer;
-    let flow = reading.flow;
-    match answer {
-        Answer::Refused(r) => refused(r),
-        Answer::Legal => sample_flow(
-            places,
-            patterns,
-            distances,
-            parents,
-            heads,
-            nexts,
-            fans,
-            flow,
-            instruction,
-            exit,
-            row,
-        ),
+    let ending = drawn.ending;
+    match ending {
+        Ending::Taken => {
+            let lengths = drawn.lengths;
+            SampleAnswer {
+                end: SampleEnd::Taken,
+                distance: drawn.distance,
+                lengths,
+            }
+        }
+        Ending::Never => without(SampleEnd::Never),
+        Ending::Short => without(SampleEnd::Refused(Refusal::ShortRow)),
+        Ending::Full => without(SampleEnd::Refused(why)),
     }
 }

@@ -28,12 +28,12 @@ returns c =
     let put = c .report-text .ensures in (
       record {
         answer = made .result;
-        cells = zeroRows 4096;
-        cells′ = rows (after .1 .0) (after .1 .1 .0) (after .1 .1 .1 .0) (after .1 .1 .1 .1 .0) (after .1 .1 .1 .1 .1 .0) (after .1 .1 .1 .1 .1 .1 .0) (after .1 .1 .1 .1 .1 .1 .1 .0);
+        rows = zeroRows 4096;
+        rows′ = rows (after .1 .0) (after .1 .1 .0) (after .1 .1 .1 .0) (after .1 .1 .1 .1 .0) (after .1 .1 .1 .1 .1 .0) (after .1 .1 .1 .1 .1 .1 .0) (after .1 .1 .1 .1 .1 .1 .1 .0);
         lent = zero-rows-lent 4096 (omega arith);
         is = made .ensures;
         size = put .0 .0;
-        bytes = put .0 .1;
+        after = put .0 .1;
       },
       put .1,
     )

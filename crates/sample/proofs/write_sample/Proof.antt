@@ -57,7 +57,7 @@ last-read-requires c κs =
     let w = c .before .before .write-steps in
     let f = subst (λ (k : Course). Following k flow (sizes .result) (now (a .row)) (a .steps) (w .result) (w .last .1 .1 .1 .1 .1 .1 .1 .1 .1 .0)) same
     (w .ensures flow (subst (λ (k : Course). Leads k flow) (sym same) q)) in
-    rw (toZ-ofZ (b .fits .lo), toZ-ofZ (b .fits .hi)) (end-asks q (a .exit) is (sizes .ensures) (b .pre .0 .2) f)
+    rw (toZ-ofZ (b .fits .lo), toZ-ofZ (b .fits .hi)) (end-asks q (a .exit) is (sizes .ensures) (b .pre .0 .2) f (b .pre .1))
 
 returns : tie.Need-returns
 returns c =
@@ -73,7 +73,7 @@ returns c =
     λ flow q d.
     let f = subst (λ (k : Course). Following k flow (sizes .result) (now (a .row)) (a .steps) (w .result) (w .last .1 .1 .1 .1 .1 .1 .1 .1 .1 .0)) same
     (w .ensures flow (subst (λ (k : Course). Leads k flow) (sym same) q)) in
-    end-written q (a .exit) is (sizes .ensures) d f e
+    end-written q (a .exit) is (sizes .ensures) d f (b .pre .1) e
 
 pub write-sample-spec : {M : Type 1} → statement M
 write-sample-spec =

@@ -7,9 +7,14 @@ use native.Mathlib.Omega.{arith}
 use borrow.Author.Needs.{needs}
 use Rattle.cells.specs.Cells.{rows}
 use Rattle.search.specs.Search.{Subject, Exploring, SearchedIs}
-use Rattle.search.proofs.Growing.{Same}
-use Rattle.search.proofs.Fanning.{grown-to, grown-full}
+use Rattle.growth.proofs.Growing.{Same}
+use Rattle.growth.proofs.Fanning.{grown-to, grown-full}
 use Rattle.search.proofs.Exploring.{either, picked, entry-fine, entry-near, explored, explored-full, finished}
+use Rattle.configuration.proofs.Op.stop.Reads as stop-reads
+use Rattle.configuration.proofs.place.at.Reads as at-reads
+use Rattle.search.proofs.expand.Reads as expand-reads
+use Rattle.search.proofs.walk.Reads as reads
+use Rattle.search.proofs.walk.Lts as lts
 use Rattle.search.proofs.walk.Statement.{statement}
 use Rattle.search.proofs.walk.Tie as tie
 
@@ -23,6 +28,20 @@ abbrev μ-loop : tie.MeasureT-loop
 μ-loop places₀ patterns₀ distances₀ parents₀ heads₀ nexts₀ fans₀ cells w ops n₀ k₀ places patterns distances parents heads nexts fans n k =
     cells - k
 
+-- ---- the way: the loop, a turn of it, and the expansion
+abbrev claims : lts.Claims
+claims = (at-reads.Asked, at-reads.Learnt, stop-reads.Asked, stop-reads.Learnt, expand-reads.Asked, expand-reads.Learnt)
+
+abbrev start : lts.At-loop claims reads.Pre reads.Post Inv-loop μ-loop → lts.Start claims reads.Pre reads.Post Inv-loop μ-loop
+start c = c .before .before .before .before .before .before .before .before
+
+abbrev inside : lts.After-expand claims reads.Pre reads.Post Inv-loop μ-loop → lts.In-loop claims reads.Pre reads.Post Inv-loop μ-loop
+inside c = c .before .before .before .before .before .before .before .before .before .before .before .before
+
+abbrev expanded : lts.After-enum-told claims reads.Pre reads.Post Inv-loop μ-loop → lts.After-expand claims reads.Pre reads.Post Inv-loop μ-loop
+expanded c = c .before .before .before .before .before .before .before .before .before .before .before .before .before .before .before .before
+
+-- ---- the needs
 loop-holds : tie.Need-loop-holds Inv-loop μ-loop
 loop-holds c =
     (λ s x. x, record { places = refl; patterns = refl; distances = refl; parents = refl; heads = refl; nexts = refl; fans = refl })
@@ -30,18 +49,16 @@ loop-holds c =
 mul-at : tie.Need-mul-at Inv-loop μ-loop
 mul-at c =
     let at = c .before in
-    let start = at .before .before .before .before .before .before .before .before in
-    let s = start .pre .0 in
-    let x = at .loop .inv .0 s (start .pre .1) in
+    let s = start at .pre .0 in
+    let x = at .loop .inv .0 s (start at .pre .1) in
     let i = x .ready .filled .index in
     search needs
 
 slice-read-at : tie.Need-slice-read-at Inv-loop μ-loop
 slice-read-at c =
     let at = c .before .before in
-    let start = at .before .before .before .before .before .before .before .before in
-    let s = start .pre .0 in
-    let x = at .loop .inv .0 s (start .pre .1) in
+    let s = start at .pre .0 in
+    let x = at .loop .inv .0 s (start at .pre .1) in
     let i = x .ready .filled .index in
     search needs
 
@@ -52,9 +69,8 @@ expand-requires c κs =
     let placed = stopped .before in
     let inside = placed .before .before in
     let at = inside .before in
-    let start = at .before .before .before .before .before .before .before .before in
-    let s = start .pre .0 in
-    let x = at .loop .inv .0 s (start .pre .1) in
+    let s = start at .pre .0 in
+    let x = at .loop .inv .0 s (start at .pre .1) in
     let pick = (picked (s .prepared) _ _ (ap (λ (n : ℕ). (n + 127) % 128) (placed .at .ensures .0))
     (either (λ t. inl (t .0 .taken, t .2)) (λ t. inr (t .0 .left, t .1 ∙ stopped .stop .ensures)) (joined .if1 .came))) in
     (x .ready, (inside .loop-test .taken, (entry-fine (s .fit) x (inside .loop-test .taken) pick, entry-near (s .fit) x (inside .loop-test .taken))))
@@ -78,25 +94,19 @@ returns c =
 
 add-k : tie.Need-add-k Inv-loop μ-loop
 add-k c =
-    let inside = c .before .before .before .before .before .before .before .before .before .before .before .before .before .before in
-    let inside = inside .before .before .before .before .before .before .before .before .before .before .before .before .before .before in
-    let inside = inside .before in
-    let at = inside .before in
-    let start = at .before .before .before .before .before .before .before .before in
-    let s = start .pre .0 in
-    let x = at .loop .inv .0 s (start .pre .1) in
-    record { fits = omega (arith, x .ready .filled .index .within, x .ready .filled .index .few, inside .loop-test .taken) }
+    let turn = inside (c .before .before .before .before .before .before .before .before .before .before .before .before .before .before .before .before .before) in
+    let at = turn .before in
+    let s = start at .pre .0 in
+    let x = at .loop .inv .0 s (start at .pre .1) in
+    record { fits = omega (arith, x .ready .filled .index .within, x .ready .filled .index .few, turn .loop-test .taken) }
 
 loop-less : tie.Need-loop-less Inv-loop μ-loop
 loop-less c =
-    let inside = c .before .before .before .before .before .before .before .before .before .before .before .before .before .before in
-    let inside = inside .before .before .before .before .before .before .before .before .before .before .before .before .before .before in
-    let inside = inside .before in
-    let at = inside .before in
-    let start = at .before .before .before .before .before .before .before .before in
-    let s = start .pre .0 in
-    let x = at .loop .inv .0 s (start .pre .1) in
-    omega (arith, x .ready .filled .index .within, inside .loop-test .taken)
+    let turn = inside (c .before .before .before .before .before .before .before .before .before .before .before .before .before .before .before .before .before) in
+    let at = turn .before in
+    let s = start at .pre .0 in
+    let x = at .loop .inv .0 s (start at .pre .1) in
+    omega (arith, x .ready .filled .index .within, turn .loop-test .taken)
 
 loop-again : tie.Need-loop-again Inv-loop μ-loop
 loop-again c =
@@ -139,32 +149,30 @@ walk-spec =
     loop-holds
     mul-at
     slice-read-at
-    (λ c κs. search needs)
+    (λ c κs. search)
     (λ c. search needs)
-    (λ c κs. search needs)
+    (λ c κs. search)
     (λ c. search needs)
-    (λ c. search needs)
+    (λ c. search)
     expand-requires
-    (λ c. search needs)
-    (λ c. search needs)
-    (λ c. search needs)
-    (λ c. search needs)
-    (λ c. search needs)
-    (λ c. search needs)
-    (λ c. search needs)
-    (λ c. search needs)
-    (λ c. search needs)
+    (λ c. search)
+    (λ c. search)
+    (λ c. expanded c .expand .kept .0 ∙ inside (expanded c) .before .loop .inv .1 .places)
+    (λ c. expanded c .expand .kept .1 .0 ∙ inside (expanded c) .before .loop .inv .1 .patterns)
+    (λ c. expanded c .expand .kept .1 .1 .0 ∙ inside (expanded c) .before .loop .inv .1 .distances)
+    (λ c. expanded c .expand .kept .1 .1 .1 .0 ∙ inside (expanded c) .before .loop .inv .1 .parents)
+    (λ c. expanded c .expand .kept .1 .1 .1 .1 .0 ∙ inside (expanded c) .before .loop .inv .1 .heads)
+    (λ c. expanded c .expand .kept .1 .1 .1 .1 .1 .0 ∙ inside (expanded c) .before .loop .inv .1 .nexts)
+    (λ c. expanded c .expand .kept .1 .1 .1 .1 .1 .1 .0 ∙ inside (expanded c) .before .loop .inv .1 .fans)
     returns
     add-k
     loop-less
     loop-again
-    (λ c. search needs)
-    (λ c. search needs)
-    (λ c. search needs)
-    (λ c. search needs)
-    (λ c. search needs)
-    (λ c. search needs)
-    (λ c. search needs)
+    (λ c. search)
+    (λ c. search)
+    (λ c. search)
+    (λ c. search)
+    (λ c. search)
+    (λ c. search)
+    (λ c. search)
     returns-2)
-
--- tmp

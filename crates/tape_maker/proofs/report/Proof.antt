@@ -1,42 +1,30 @@
--- `tape_maker::report` meets its contract: a text that is refused, and one that is searched.
+-- `tape_maker::report` meets its contract: the plan of the text is searched, and what is found is answered.
 use borrow.Author.Needs.{needs}
-use Rattle.tape_maker.proofs.RunLaws.{read-fault, read-ok}
-use Rattle.tape_maker.proofs.ReportLaws.{text-refused, text-reported}
+use Rattle.tape_maker.proofs.ReportLaws.{planned-subject, planned-walkable, reported-is}
 use Rattle.tape_maker.proofs.report.Statement.{statement}
 use Rattle.tape_maker.proofs.report.Tie as tie
 
-report-flow-requires : tie.Need-report-flow-requires
-report-flow-requires c κs = let r = read-ok _ _ (c .before .before .before .before .before .before .before .before .before .before .read .ensures) (c .before .before .before .before .before .before .before .enum-told .given .1) in (r .legal, r .few)
+explore-requires : tie.Need-explore-requires
+explore-requires c κs = planned-subject _ _ (c .before .before .before .before .before .before .before .before .before .plan .ensures)
+
+answer-requires : tie.Need-answer-requires
+answer-requires c κs = planned-walkable _ _ _ _ (c .before .before .before .before .before .before .before .before .before .before .before .before .before .before .before .before .before .before .before .before .before .before .before .before .before .before .before .plan .ensures) (c .before .before .before .before .before .before .before .before .before .before .before .before .before .before .before .before .before .explore .ensures)
 
 returns : tie.Need-returns
-returns c = text-refused _ _ _ _ _ (read-fault _ _ _ (c .before .before .before .before .before .before .before .before .before .before .before .before .before .before .before .before .before .before .before .before .before .before .before .before .before .before .before .read .ensures) (c .before .before .before .before .before .before .before .before .before .before .before .before .before .before .before .before .before .before .before .before .before .before .before .before .answer .given .1)) (c .refused .ensures) (c .before .before .before .before .before .before .before .before .before .before .before .before .before .before .before .clear .ensures)
-
-returns-2 : tie.Need-returns-2
-returns-2 c = text-reported _ _ _ _ _ (read-ok _ _ (c .before .before .before .before .before .before .before .before .before .before .before .before .before .before .before .before .before .before .before .before .before .before .before .before .before .read .ensures) (c .before .before .before .before .before .before .before .before .before .before .before .before .before .before .before .before .before .before .before .before .before .before .enum-told .given .1) .read) (c .before .before .before .before .before .before .before .before .before .before .before .before .before .before .report-flow .ensures)
+returns c = reported-is _ _ _ _ _ _ (c .before .before .before .before .before .before .before .before .before .before .before .before .before .before .before .before .before .before .before .before .before .before .before .before .before .before .before .before .plan .ensures) (c .before .before .before .before .before .before .before .before .before .before .before .before .before .before .before .before .before .before .explore .ensures) (c .answer .ensures)
 
 pub report-spec : {M : Type 1} → statement M
 report-spec =
     tie.close
     (tie.spec
     (λ c κs. search needs)
-    (λ c. search needs)
-    (λ c κs. search needs)
-    (λ c κs. search needs)
-    (λ c. search needs)
-    report-flow-requires
-    (λ c. search needs)
-    (λ c. search needs)
-    (λ c. search needs)
-    (λ c. search needs)
-    (λ c. search needs)
-    (λ c. search needs)
-    (λ c. search needs)
-    returns
-    (λ c. search needs)
-    (λ c. search needs)
-    (λ c. search needs)
-    (λ c. search needs)
-    (λ c. search needs)
-    (λ c. search needs)
-    (λ c. search needs)
-    returns-2)
+    explore-requires
+    answer-requires
+    (λ c. c .before .before .before .before .before .before .before .before .before .before .before .before .before .before .before .before .before .before .explore .kept .0)
+    (λ c. c .before .before .before .before .before .before .before .before .before .before .before .before .before .before .before .before .before .before .explore .kept .1 .0)
+    (λ c. c .before .before .before .before .before .before .before .before .before .before .before .before .before .before .before .before .before .before .explore .kept .1 .1 .0)
+    (λ c. c .before .before .before .before .before .before .before .before .before .before .before .before .before .before .before .before .before .before .explore .kept .1 .1 .1 .0)
+    (λ c. c .before .before .before .before .before .before .before .before .before .before .before .before .before .before .before .before .before .before .explore .kept .1 .1 .1 .1 .0)
+    (λ c. c .before .before .before .before .before .before .before .before .before .before .before .before .before .before .before .before .before .before .explore .kept .1 .1 .1 .1 .1 .0)
+    (λ c. c .before .before .before .before .before .before .before .before .before .before .before .before .before .before .before .before .before .before .explore .kept .1 .1 .1 .1 .1 .1 .0)
+    returns)

@@ -1,0 +1,151 @@
+-- What a finished table gives for an exit, by what is found: nothing takes it, or the nearest entry that does gives the distance and the way.
+use mathlib.Core.Path.{_≡_, refl, ap, _∙_, subst, subst⁻¹}
+use mathlib.Core.Bool.{Bool, true}
+use mathlib.Core.List.{List}
+use Prim.Native.Nat.{ℕ, zero, suc, _+_, _-_, _≤_, _<_}
+use native.Mathlib.Omega.{arith}
+use native.Mathlib.Decide.{decLt}
+use lib.IntN.{ℤ, pos, negsuc}
+use lib.Signed.{leZ}
+use lib.Dec.{T}
+use lib.ListN.{length, getD}
+use Rattle.model.specs.Language.{Flow, instruction, hasExits}
+use Rattle.model.specs.Machine.{exitIf}
+use Rattle.model.specs.Distance.{Distance}
+use Rattle.model.proofs.Integers.{zarith}
+use Rattle.flow.specs.Limits.{maxInstructions}
+use Rattle.configuration.specs.Op.{opOf}
+use Rattle.configuration.specs.Pattern.{Width}
+use Rattle.configuration.specs.declared.Op.{Op}
+use Rattle.configuration.proofs.Steps.{Fit}
+use Rattle.configuration.proofs.Fitting.{fit-legal, legal-limited}
+use Rattle.cells.specs.Entries.{Entries, distanceOf}
+use Rattle.cells.specs.Way.{Traced}
+use Rattle.cells.specs.declared.Found.{Found}
+use Rattle.cells.specs.declared.Found.the-variants.{At, Nothing}
+use Rattle.table.specs.Table.{Complete}
+use Rattle.table.specs.Passes.{blank, Prepared}
+use Rattle.table.proofs.Says.{found-distance, found-stored, found-nothing, past-plain}
+use Rattle.sample.specs.Sampling.{Course, course, Leads, endOf, Ends, WrittenBy, Tabled, NearestIs}
+use Rattle.sample.specs.Picking.{Written, PickedIs}
+use Rattle.sample.specs.declared.Outcome.{Outcome}
+use Rattle.sample.specs.declared.Outcome.the-variants.{Taken, Never, Short}
+use Rattle.sample.specs.declared.Picked.{Picked}
+use Rattle.sample.proofs.Given.{traced-leads, found-ends}
+
+-- ---- an instruction with two exits is one of the flow's
+pub exits-first : (flow : Flow) (i : ℕ) → hasExits (instruction flow i) ≡ true → 1 ≤ i
+exits-first flow zero h = let z : _≡_ {A = ℕ} 0 1 = cc in absurd (omega arith)
+exits-first flow (suc i) h = omega arith
+
+pub exits-last : (flow : Flow) (i : ℕ) → hasExits (instruction flow i) ≡ true → i ≤ length (flow .instructions)
+exits-last flow i h = by (decLt (length (flow .instructions)) i)
+  where
+    by : Dec (length (flow .instructions) < i) → i ≤ length (flow .instructions)
+    by (yes l) = let q = past-plain flow i l in let z : _≡_ {A = ℕ} 0 1 = cc in absurd (omega arith)
+    by (no l) = omega arith
+
+-- ---- what is found, by its end
+pub nearest-is : (w : ℕ) (e : Entries) (n : ℕ) (ops : List Op) (i : ℕ) (exit : Bool) {r found : Found} → r ≡ found
+    → NearestIs w e n ops i (exitIf exit) r → NearestIs w e n ops i (exitIf exit) found
+nearest-is w e n ops i exit q h = subst (λ (x : Found). NearestIs w e n ops i (exitIf exit) x) q h
+
+-- ---- C1 and C2 as they are passed on
+pub tabled-at : {flow : Flow} {e : Entries} {n room : ℕ} {ops : List Op} {w : ℕ} {lo lo′ hi hi′ : ℤ} {i : ℕ}
+    → Tabled flow e n room ops w lo hi i → lo′ ≡ lo → hi′ ≡ hi → Tabled flow e n room ops w lo′ hi′ i
+tabled-at t p q =
+    record {
+      legal = t .legal;
+      width = t .width;
+      low = p ∙ t .low;
+      high = q ∙ t .high;
+      prepared = t .prepared;
+      complete = t .complete;
+      parents = t .parents;
+      walkable = t .walkable;
+      path-room = t .path-room;
+      wanted = t .wanted;
+    }
+
+module _ {flow : Flow} {e : Entries} {n room : ℕ} {ops : List Op} {w : ℕ} {lo hi : ℤ} {i : ℕ} (t : Tabled flow e n room ops w lo hi i) where
+  fit : Fit lo hi w flow
+  fit = rw (t .low, t .high, t .width) (fit-legal flow (t .legal))
+
+  pub tabled-wide : Width w
+  tabled-wide = fit .span .width
+
+  prepared : Prepared lo flow ops
+  prepared = rw (t .low) (t .prepared)
+
+  complete : Complete lo w flow e n
+  complete = rw (t .low) (t .complete)
+
+  low : T (leZ (negsuc 9998) lo)
+  low = let l = legal-limited flow (t .legal) .0 .0 in rw (t .low) (omega zarith)
+
+  high : T (leZ hi (pos 9999))
+  high = let l = legal-limited flow (t .legal) .1 .1 in rw (t .high) (omega zarith)
+
+  pub tabled-first : 1 ≤ i
+  tabled-first = exits-first flow i (t .wanted)
+
+  pub tabled-last : i ≤ maxInstructions
+  tabled-last = omega (arith, exits-last flow i (t .wanted), t .legal .size .1)
+
+  op-is : getD ops (i - 1) blank ≡ opOf lo (instruction flow i)
+  op-is =
+      let n : suc (i - 1) ≡ i = omega (arith, tabled-first) in
+      prepared .each (i - 1) (omega (arith, tabled-first, tabled-last)) ∙ ap (λ (j : ℕ). opOf lo (instruction flow j)) n
+
+  module _ (exit : Bool) where
+    pub nothing-picked : (row : List ℤ) (r : Picked) → NearestIs w e n ops i (exitIf exit) Nothing → r .outcome ≡ Never
+        → PickedIs flow i (exitIf exit) row row r (r .outcome)
+    unfolding PickedIs
+    nothing-picked row r h q =
+        subst⁻¹ (λ (x : Outcome). PickedIs flow i (exitIf exit) row row r x) q
+        (found-nothing fit complete i (exitIf exit) (getD ops (i - 1) blank) op-is h, refl)
+
+    module _ (k : ℕ) (h : NearestIs w e n ops i (exitIf exit) (At k)) where
+      pub nearest-below : k < n
+      nearest-below = found-stored fit complete i (exitIf exit) (getD ops (i - 1) blank) op-is k h
+
+      pub nearest-room : distanceOf e k < room
+      nearest-room = omega (arith, nearest-below, t .walkable .near k nearest-below, t .path-room)
+
+      -- its distance, as a number that the code holds
+      module _ {last : ℕ} (is-last : last ≡ distanceOf e k) where
+        pub short-picked : (row : List ℤ) (r : Picked) → length row ≤ last → r .outcome ≡ Short
+            → PickedIs flow i (exitIf exit) row row r (r .outcome)
+        unfolding PickedIs
+        short-picked row r l q =
+            let far : Distance flow i (exitIf exit) (suc last)
+            = subst⁻¹ (λ (m : ℕ). Distance flow i (exitIf exit) (suc m)) is-last
+            (found-distance fit complete i (exitIf exit) (getD ops (i - 1) blank) op-is k h) in
+            subst⁻¹ (λ (x : Outcome). PickedIs flow i (exitIf exit) row row r x) q
+            (record { needed = suc last; distance = far; short = omega arith }, refl)
+
+        module _ {path : List ℕ} (long : length path ≡ room) (traced : Traced (e .distances) (e .parents) path n k (distanceOf e k)) where
+          way : Traced (e .distances) (e .parents) path n k last
+          way = subst⁻¹ (λ (m : ℕ). Traced (e .distances) (e .parents) path n k m) is-last traced
+
+          abbrev way-course : Course
+          way-course = course (e .places) (e .patterns) path last ops w lo hi
+
+          pub way-leads : Leads way-course flow
+          way-leads = traced-leads fit complete (t .parents) way ops low high prepared (t .walkable) (omega (arith, nearest-room))
+
+          way-end : Ends way-course flow exit × (endOf way-course ≡ i)
+          way-end = found-ends fit complete (t .parents) way ops i exit (getD ops (i - 1) blank) op-is h
+
+          pub way-ends-there : Ends way-course flow exit
+          way-ends-there = way-end .0
+
+          pub taken-picked : {row row′ : List ℤ} (r : Picked) → WrittenBy way-course flow exit row row′ (r .lengths) → r .distance ≡ last + 1
+              → r .outcome ≡ Taken → PickedIs flow i (exitIf exit) row row′ r (r .outcome)
+          unfolding PickedIs
+          taken-picked {row} {row′} r x d q =
+              let far : suc last ≡ r .distance = omega arith in
+              let at : Written lo hi flow i (exitIf exit) (r .distance) row row′ (r .lengths)
+              = subst (λ (m : ℕ). Written lo hi flow i (exitIf exit) m row row′ (r .lengths)) far
+              (subst (λ (j : ℕ). Written lo hi flow j (exitIf exit) (suc last) row row′ (r .lengths)) (way-end .1) x) in
+              subst⁻¹ (λ (x : Outcome). PickedIs flow i (exitIf exit) row row′ r x) q (rw (t .low, t .high) at at)
