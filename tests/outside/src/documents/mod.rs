@@ -1,5 +1,5 @@
-//! What documents 01 and 000 say of a text, a run, a report, a sample: written from these two alone, by an author who had not seen the
-//! crates, the library's header or the project's other documents.
+//! What documents 01 and 000 say of a text, a run, a report, a sample: written from these two, to given signatures, by an author who had not
+//! seen the crates, the library's header or the project's other documents.
 
 pub mod flow;
 pub mod interpreter;
