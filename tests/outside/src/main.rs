@@ -2,7 +2,7 @@
 //!
 //!     outside [SEED [ROUNDS]]
 //!
-//! The implementation (documents/) is written from documents 01 and 000 alone. Some of the texts go to the program `report` too, if its path
+//! The implementation (documents/) is written from documents 01 and 000. Some of the texts go to the program `report` too, if its path
 //! is in REPORT. Prints the seed, the cases by sort and outcome, and `N cases, M differences`. A difference is printed with its case in
 //! full, and the status is then 1; it is 1 too if an outcome that document 01 knows was never met.
 
