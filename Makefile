@@ -4,9 +4,11 @@
 # make examples                   builds and runs the makers' programs in C and in Rust
 # make outside SEED=1             library and program against a second implementation, on generated texts, tapes and samples
 # make bench                      the library against plain Rust: the tables of docs/BENCHMARKS.md
+# make bench BEFORE=old.a         the same, and against an older library with seven work rows
 
 FLOW ?= flows/a.flow
 SEED ?=
+BEFORE ?=
 CC ?= cc
 RUSTC ?= rustc
 LINKED = $(RUSTC) --edition 2021 -C opt-level=3 -L native=target/staticlib -l static=tilsando
@@ -37,9 +39,11 @@ outside: lib program
 	@$(LINKED) -o target/rust/outside tests/outside/src/main.rs
 	@REPORT=target/bin/report target/rust/outside $(SEED)
 
+# Of an older library one function is kept, under another name, so that both are linked.
 bench: lib
 	@mkdir -p target/rust
-	@$(LINKED) -o target/rust/bench bench/src/main.rs
+	@$(if $(BEFORE),objcopy --redefine-sym tilsando_report=before_report --keep-global-symbol before_report $(BEFORE) target/rust/libbefore.a)
+	@$(LINKED) $(if $(BEFORE),--cfg before -L native=target/rust -l static=before) -o target/rust/bench bench/src/main.rs
 	@target/rust/bench
 
 test:

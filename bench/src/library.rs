@@ -4,12 +4,12 @@
 #[path = "../../tests/outside/src/ffi.rs"]
 mod ffi;
 
-use crate::plain::Rows;
+use crate::plain::Cell;
 
-/// What a call tells in its answer rows.
+/// What a call tells: the value returned and the rows of results.
 #[derive(Debug, PartialEq, Eq)]
 pub struct Told {
-    pub refusal: u32,
+    pub returned: u32,
     pub answer: [u64; 5],
     pub two: [u8; 64],
     pub p: [u32; 64],
@@ -17,48 +17,42 @@ pub struct Told {
 }
 
 impl Told {
-    pub const NOTHING: Told = Told { refusal: 0, answer: [0; 5], two: [0; 64], p: [0; 64], m: [0; 64] };
+    pub const NOTHING: Told = Told { returned: 0, answer: [0; 5], two: [0; 64], p: [0; 64], m: [0; 64] };
 }
 
 pub fn run(text: &[u8], limit: u64, records: &[i32], lengths: &[usize], numbers: &mut [u8], values: &mut [i32]) -> Told {
     let mut told = Told::NOTHING;
     #[rustfmt::skip]
-    let refusal = unsafe {
+    let returned = unsafe {
         ffi::tilsando_run(
             text.as_ptr(), text.len(), limit, records.as_ptr(), records.len(), lengths.as_ptr(), lengths.len(),
             numbers.as_mut_ptr(), numbers.len(), values.as_mut_ptr(), values.len(),
             told.p.as_mut_ptr(), 64, told.m.as_mut_ptr(), 64, told.answer.as_mut_ptr(), 5,
         )
     };
-    Told { refusal, ..told }
+    Told { returned, ..told }
 }
 
-pub fn report(text: &[u8], rows: &mut Rows) -> Told {
+pub fn report(text: &[u8], cells: &mut [Cell]) -> Told {
     let mut told = Told::NOTHING;
     #[rustfmt::skip]
-    let refusal = unsafe {
+    let returned = unsafe {
         ffi::tilsando_report(
-            text.as_ptr(), text.len(),
-            rows.places.as_mut_ptr(), rows.places.len(), rows.patterns.as_mut_ptr(), rows.patterns.len(),
-            rows.distances.as_mut_ptr(), rows.distances.len(), rows.parents.as_mut_ptr(), rows.parents.len(),
-            rows.heads.as_mut_ptr(), rows.heads.len(), rows.nexts.as_mut_ptr(), rows.nexts.len(), rows.fans.as_mut_ptr(), rows.fans.len(),
+            text.as_ptr(), text.len(), cells.as_mut_ptr(), cells.len(),
             told.two.as_mut_ptr(), 64, told.p.as_mut_ptr(), 64, told.m.as_mut_ptr(), 64, told.answer.as_mut_ptr(), 5,
         )
     };
-    Told { refusal, ..told }
+    Told { returned, ..told }
 }
 
-pub fn sample(text: &[u8], instruction: u64, exit: bool, rows: &mut Rows, row: &mut [i32]) -> Told {
+pub fn sample(text: &[u8], instruction: u64, exit: bool, cells: &mut [Cell], row: &mut [i32]) -> Told {
     let mut told = Told::NOTHING;
     #[rustfmt::skip]
-    let refusal = unsafe {
+    let returned = unsafe {
         ffi::tilsando_sample(
-            text.as_ptr(), text.len(), instruction, u8::from(exit),
-            rows.places.as_mut_ptr(), rows.places.len(), rows.patterns.as_mut_ptr(), rows.patterns.len(),
-            rows.distances.as_mut_ptr(), rows.distances.len(), rows.parents.as_mut_ptr(), rows.parents.len(),
-            rows.heads.as_mut_ptr(), rows.heads.len(), rows.nexts.as_mut_ptr(), rows.nexts.len(), rows.fans.as_mut_ptr(), rows.fans.len(),
+            text.as_ptr(), text.len(), instruction, u8::from(exit), cells.as_mut_ptr(), cells.len(),
             row.as_mut_ptr(), row.len(), told.answer.as_mut_ptr(), 5,
         )
     };
-    Told { refusal, ..told }
+    Told { returned, ..told }
 }

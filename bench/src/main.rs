@@ -1,68 +1,54 @@
-//! The library against the same algorithms in plain Rust, in one run; prints a table.
+//! The library against the same algorithms in plain Rust, in one run; prints tables.
 //!
 //! Both answer the same requests, in turn; the answers are compared. A time is the processor time of one request, the least and the
-//! median of all rounds.
+//! median of all rounds. Before each report and each sample the cells hold what a request of another flow left.
 
+#[cfg(before)]
+mod before;
 mod clock;
 mod flows;
 mod library;
+mod measure;
 mod plain;
 
 use library::Told;
-use plain::Rows;
+use measure::{after, each, in_turn, worst, Compared};
+use plain::Cell;
 use std::hint::black_box;
 
 const CELLS: usize = 65_536;
-const ROUNDS: usize = 31;
 
-/// Work rows of 65,536 cells. Both sides use the same ones, so that neither finds them nearer to the processor.
-struct Work {
-    words: [Vec<u64>; 2],
-    halves: [Vec<u32>; 4],
-    bytes: Vec<u8>,
+/// A flow and the number of its configurations.
+struct Flow {
+    text: Vec<u8>,
+    k: usize,
 }
 
-impl Work {
-    fn new() -> Work {
-        Work { words: [0; 2].map(|_| vec![0; CELLS]), halves: [0; 4].map(|_| vec![0; CELLS]), bytes: vec![0; CELLS] }
-    }
-
-    /// The first k cells.
-    fn rows(&mut self, k: usize) -> Rows<'_> {
-        let [places, patterns] = &mut self.words;
-        let [distances, parents, heads, nexts] = &mut self.halves;
-        Rows {
-            places: &mut places[..k],
-            patterns: &mut patterns[..k],
-            distances: &mut distances[..k],
-            parents: &mut parents[..k],
-            heads: &mut heads[..k],
-            nexts: &mut nexts[..k],
-            fans: &mut self.bytes[..k],
-        }
+impl Flow {
+    fn of(text: Vec<u8>, cells: &mut [Cell]) -> Flow {
+        let k = plain::report(&text, cells).expect("a report is given").configurations;
+        Flow { text, k }
     }
 }
 
-/// The least and the median time, in nanoseconds.
-#[derive(Clone, Copy)]
-struct Times {
-    least: f64,
-    median: f64,
+/// A flow of a family, and one of another family about as large: before each request for the flow comes one for the other.
+struct Subject<'a> {
+    family: &'a str,
+    flow: &'a Flow,
+    other: &'a Flow,
 }
 
-fn times(mut all: Vec<f64>) -> Times {
-    all.sort_by(f64::total_cmp);
-    Times { least: all[0], median: all[all.len() / 2] }
-}
-
-/// The times of two calls that are made in turn, on what is lent to both.
-fn in_turn<C, A, B>(lent: &mut C, calls: u64, mut one: impl FnMut(&mut C) -> A, mut other: impl FnMut(&mut C) -> B) -> (Times, Times) {
-    let mut all = (Vec::new(), Vec::new());
-    for _ in 0..ROUNDS {
-        all.0.push(clock::time(calls, || drop(black_box(one(lent)))));
-        all.1.push(clock::time(calls, || drop(black_box(other(lent)))));
+impl Subject<'_> {
+    /// The time of a request for the flow; the one before it does not count.
+    fn time<C: ?Sized, A>(&self, lent: &mut C, ask: impl Fn(&mut C, &Flow) -> A) -> f64 {
+        let calls = (100_000 / self.flow.k as u64).max(1);
+        after(calls, lent, |lent| ask(lent, self.other), |lent| ask(lent, self.flow))
     }
-    (times(all.0), times(all.1))
+}
+
+/// Reports by the library, in n cells or as many as it takes.
+fn ours(n: usize) -> impl Fn(&mut [Cell], &Flow) -> Told {
+    move |cells, flow| library::report(black_box(&flow.text), &mut cells[..n.max(flow.k)])
 }
 
 fn shown(nanoseconds: f64) -> String {
@@ -73,31 +59,29 @@ fn shown(nanoseconds: f64) -> String {
     }
 }
 
-fn line(what: &str, (ours, plain): (Times, Times)) {
-    let ratio = |a: f64, b: f64| format!("{:.2}", a / b);
-    println!(
-        "| {what} | {} | {} | {} | {} | {} | {} |",
-        shown(ours.least),
-        shown(plain.least),
-        ratio(ours.least, plain.least),
-        shown(ours.median),
-        shown(plain.median),
-        ratio(ours.median, plain.median),
-    );
+fn head(what: &str, one: &str, other: &str) {
+    println!("\n| {what} | {one}, least | {other}, least | Ratio | {one}, median | {other}, median | Ratio |");
+    println!("|---|---|---|---|---|---|---|");
+}
+
+fn line(what: &str, compared: Compared) -> Compared {
+    let (ratio, Compared { one, other }) = (compared.ratio(), compared);
+    print!("| {what} | {} | {} | {:.2} ", shown(one.least), shown(other.least), ratio.least);
+    println!("| {} | {} | {:.2} |", shown(one.median), shown(other.median), ratio.median);
+    compared
 }
 
 /// The reading of a text: a run of 0 steps on three empty tapes.
 fn reading(what: &str, text: &[u8]) {
-    let ours = |_: &mut ()| library::run(black_box(text), 0, &[], &[0; 3], &mut [], &mut []);
-    let plain = |_: &mut ()| plain::running::run(black_box(text), 0, &[], &[0; 3], &mut [], &mut []).map(|ran| ran.end as u64);
-    let told = ours(&mut ());
-    let (refusal, place, end) = plain(&mut ()).map_or_else(|(number, place)| (number, place, 0), |end| (0, 0, end));
-    assert_eq!((told.refusal, told.answer[0], told.answer[1]), (refusal, place, end), "{what}: both answer the same");
-    line(&format!("reading, {what}, {} bytes", text.len()), in_turn(&mut (), 200, ours, plain));
+    let ours = || library::run(black_box(text), 0, &[], &[0; 3], &mut [], &mut []);
+    let plain = || plain::running::run(black_box(text), 0, &[], &[0; 3], &mut [], &mut []);
+    let (returned, end) = plain().map_or_else(|(number, place)| (place as u32 * 256 + number, 0), |ran| (0, ran.end as u64));
+    assert_eq!(ours(), Told { returned, answer: [end, 0, 0, 0, 0], ..Told::NOTHING }, "{what}: both answer the same");
+    line(&format!("reading, {what}, {} bytes", text.len()), in_turn(&mut (), |_| each(200, ours), |_| each(200, plain)));
 }
 
 /// A run that uses its limit.
-fn run(what: &str, text: &[u8], limit: u64, tapes: &[&[i32]]) {
+fn run(what: &str, text: &[u8], limit: u64, tapes: &[&[i32]]) -> Compared {
     let records = tapes.concat();
     let lengths: Vec<usize> = tapes.iter().map(|t| t.len()).collect();
     let ours = |(numbers, values): &mut (Vec<u8>, Vec<i32>)| library::run(black_box(text), limit, &records, &lengths, numbers, values);
@@ -107,102 +91,114 @@ fn run(what: &str, text: &[u8], limit: u64, tapes: &[&[i32]]) {
     let mut outputs = (vec![0; records.len()], vec![0; records.len()]);
     let mut again = outputs.clone();
     let (told, ran) = (ours(&mut outputs), plain(&mut again));
-    let answer = [0, ran.end as u64, ran.steps, ran.puts as u64, 0];
+    let answer = [ran.end as u64, ran.steps, ran.puts as u64, 0, 0];
     assert_eq!((told, &outputs), (Told { answer, p: ran.p, m: ran.m, ..Told::NOTHING }, &again), "{what}: both answer the same");
     assert_eq!(ran.steps, limit, "{what}: the run uses its limit");
-    line(what, in_turn(&mut outputs, 1, ours, plain));
+    line(what, in_turn(&mut outputs, |lent| each(1, || ours(lent)), |lent| each(1, || plain(lent))))
 }
 
-/// The report of a flow, with as many cells as it has configurations; that number.
-fn report(work: &mut Work, family: &str, text: &[u8]) -> usize {
-    let k = plain::report(text, &mut work.rows(CELLS)).expect("a report is given").configurations;
-    let ours = |work: &mut Work| library::report(black_box(text), &mut work.rows(k));
-    let plain = |work: &mut Work| plain::report(black_box(text), &mut work.rows(k)).expect("a report is given");
-    let (told, given) = (ours(work), plain(work));
-    let answer = [0, given.instructions as u64, k as u64, 0, 0];
-    assert_eq!(
-        told,
-        Told { answer, two: given.two.map(u8::from), p: given.p, m: given.m, ..Told::NOTHING },
-        "{family}: both answer the same"
-    );
-    line(&format!("report, {family}, {k} configurations"), in_turn(work, (200_000 / k as u64).max(1), ours, plain));
-    k
-}
-
-/// How the time of a report grows from one flow to another, for the library.
-fn growth(work: &mut Work, family: &str, (text, k): (&[u8], usize), (text2, k2): (&[u8], usize)) {
-    let small = |work: &mut Work| library::report(black_box(text), &mut work.rows(k));
-    let large = |work: &mut Work| library::report(black_box(text2), &mut work.rows(k2));
-    let (t, t2) = in_turn(work, 4, small, large);
-    let more = k2 as f64 / k as f64;
-    println!(
-        "| {family} | {k} to {k2} | {more:.2} | {} to {} | {:.2} | {:.2} |",
-        shown(t.least),
-        shown(t2.least),
-        t2.least / t.least,
-        t2.median / t.median
-    );
+/// A report in as many cells as the flow has configurations.
+fn report(cells: &mut [Cell], s: &Subject) -> Compared {
+    let k = s.flow.k;
+    let plain =
+        |cells: &mut [Cell], flow: &Flow| plain::report(black_box(&flow.text), &mut cells[..k.max(flow.k)]).expect("a report is given");
+    let (told, given) = (ours(k)(cells, s.flow), plain(cells, s.flow));
+    let answer = [given.instructions as u64, k as u64, 0, 0, 0];
+    let same = Told { answer, two: given.two.map(u8::from), p: given.p, m: given.m, ..Told::NOTHING };
+    assert_eq!(told, same, "{}: both answer the same", s.family);
+    let compared = in_turn(cells, |cells| s.time(cells, ours(k)), |cells| s.time(cells, plain));
+    line(&format!("report, {}, {k} configurations", s.family), compared)
 }
 
 /// A sample for exit p of an instruction.
-fn sample(work: &mut Work, what: &str, text: &[u8], instruction: u64) {
-    let ours = |(work, row): &mut (&mut Work, Vec<i32>)| library::sample(black_box(text), instruction, true, &mut work.rows(CELLS), row);
-    let plain = |(work, row): &mut (&mut Work, Vec<i32>)| {
-        let given = plain::sample(black_box(text), instruction, true, &mut work.rows(CELLS), row).expect("the request is legal");
+fn sample(cells: &mut [Cell], what: &str, text: &[u8], instruction: u64, other: &Flow) -> Compared {
+    type Lent<'a> = (&'a mut [Cell], Vec<i32>);
+    let ours = |(cells, row): &mut Lent| library::sample(black_box(text), instruction, true, cells, row);
+    let plain = |(cells, row): &mut Lent| {
+        let given = plain::sample(black_box(text), instruction, true, cells, row).expect("the request is legal");
         given.expect("a sample is given")
     };
-    let lent = &mut (work, vec![0; CELLS]);
-    let (told, (distance, lengths)) = (ours(lent), plain(lent));
-    let [a, b, c] = lengths.map(|n| n as u64);
-    assert_eq!(told, Told { answer: [0, u64::from(distance), a, b, c], ..Told::NOTHING }, "{what}: both answer the same");
-    line(&format!("sample, {what}, distance {distance}, {} records", a + b + c), in_turn(lent, 2, ours, plain));
+    let ours_other = |(cells, _): &mut Lent| library::report(&other.text, cells);
+    let plain_other = |(cells, _): &mut Lent| plain::report(&other.text, cells).map(|given| given.configurations);
+    let lent = &mut (cells, vec![0; CELLS]);
+    let (told, given) = (ours(lent), plain(lent));
+    let [a, b, c] = given.lengths.map(|n| n as u64);
+    let answer = [u64::from(given.distance), u64::from(given.tapes), a, b, c];
+    assert_eq!(told, Told { answer, ..Told::NOTHING }, "{what}: both answer the same");
+    let compared = in_turn(lent, |lent| after(2, lent, ours_other, ours), |lent| after(2, lent, plain_other, plain));
+    line(&format!("sample, {what}, distance {}, {} records", given.distance, a + b + c), compared)
+}
+
+/// How the time of a report grows from one flow to another, for the library.
+fn growth(cells: &mut [Cell], small: &Subject, large: &Subject) -> Compared {
+    let (k, k2) = (small.flow.k, large.flow.k);
+    let compared = in_turn(cells, |cells| large.time(cells, ours(k2)), |cells| small.time(cells, ours(k)));
+    let (ratio, Compared { one, other }) = (compared.ratio(), compared);
+    print!("| {} | {k} to {k2} | {:.2} | {} to {} ", small.family, k2 as f64 / k as f64, shown(other.least), shown(one.least));
+    println!("| {:.2} | {:.2} |", ratio.least, ratio.median);
+    compared
+}
+
+/// A report in all cells, and in as many as the flow has configurations. At first the cells hold the full table of another flow.
+fn room(cells: &mut [Cell], s: &Subject, full: &Flow) -> Compared {
+    ours(CELLS)(cells, full);
+    let compared = in_turn(cells, |cells| s.time(cells, ours(CELLS)), |cells| s.time(cells, ours(s.flow.k)));
+    line(&format!("report, {}, {} configurations", s.family, s.flow.k), compared)
+}
+
+/// A report by this library and by an older one, in as many cells as the flow has configurations.
+#[cfg(before)]
+fn landing(cells: &mut [Cell], rows: &mut before::Rows, s: &Subject) -> Compared {
+    let k = s.flow.k;
+    let older = |rows: &mut before::Rows, flow: &Flow| before::report(black_box(&flow.text), rows, k.max(flow.k));
+    assert_eq!(ours(k)(cells, s.flow), older(rows, s.flow), "{}: both answer the same", s.family);
+    let compared = in_turn(&mut (cells, rows), |(cells, _)| s.time(*cells, ours(k)), |(_, rows)| s.time(*rows, older));
+    line(&format!("report, {}, {k} configurations", s.family), compared)
+}
+
+/// A bar, and the greatest of the ratios that it is for.
+fn wanted(what: &str, all: &[Compared]) {
+    println!("| {what} | {:.2} at most, the median {:.2} |", worst(all).least, worst(all).median);
 }
 
 fn main() {
-    println!("| Request | Library, least | Plain Rust, least | Ratio | Library, median | Plain Rust, median | Ratio |");
-    println!("|---|---|---|---|---|---|---|");
+    let cells = &mut vec![[0; 10]; CELLS][..];
+    let families = flows::families().map(|(family, texts)| (family, texts.map(|text| Flow::of(text, cells))));
+    let other = |i: usize| &families[(i / 5 + 1) % 3].1[i % 5];
+    let flows = families.iter().flat_map(|(family, flows)| flows.iter().map(move |flow| (*family, flow)));
+    let all: Vec<Subject> = flows.enumerate().map(|(i, (family, flow))| Subject { family, flow, other: other(i) }).collect();
+    head("Request", "Library", "Plain Rust");
     reading("64 instructions", &flows::longest());
     reading("a number of 2,600 digits", &flows::fullest());
     let tape: Vec<i32> = (0..200_000).map(|i| i * 5).collect();
     let other: Vec<i32> = (0..200_000).map(|i| i * 7 - 1000).collect();
-    run("run, merge of two tapes, 1,000,000 steps", &flows::merge(), 1_000_000, &[&tape, &other]);
-    run("run, comparisons and copies, 1,000,000 steps", &flows::endless(), 1_000_000, &[&[]]);
-    let families: [(&str, [Vec<u8>; 5]); 3] = [
-        ("wide constants", [(248, 4), (1022, 4), (1022, 16), (1022, 32), (1022, 64)].map(|(w, n)| flows::wide(-w / 2, w - w / 2 - 1, n))),
-        (
-            "four variables",
-            [
-                flows::four(3, 0, 25, 13, &[]),
-                flows::four(4, 0, 50, 7, &["less,1,2"]),
-                flows::four(4, 2, 50, 10, &["less,1,2"]),
-                flows::four(4, 2, 7, 20, &["over,2,1", "over,2,2", "over,2,3"]),
-                flows::four(4, 2, 3, 41, &["less,1,2", "less,3,4"]),
-            ],
-        ),
-        (
-            "long distances",
-            [
-                flows::counter(&[8, 2, 3], 0, 15, 0, false),
-                flows::counter(&[6, 6, 7], 14, 11, 0, false),
-                flows::counter(&[9, 7, 7], 0, 12, 0, true),
-                flows::counter(&[9, 7, 7, 7], 0, 4, 0, false),
-                flows::counter(&[9, 7, 7, 7], 0, 4, 0, true),
-            ],
-        ),
+    let runs = [
+        run("run, merge of two tapes, 1,000,000 steps", &flows::merge(), 1_000_000, &[&tape, &other]),
+        run("run, comparisons and copies, 1,000,000 steps", &flows::endless(), 1_000_000, &[&[]]),
     ];
-    let work = &mut Work::new();
-    let mut sizes = Vec::new();
-    for (family, texts) in &families {
-        sizes.push(texts.each_ref().map(|text| report(work, family, text)));
-    }
-    sample(work, "between earlier records", &flows::squeeze(15), 62);
-    sample(work, "long", &flows::counter(&[8, 8, 7, 7], 0, 0, 5, false), 62);
-    sample(work, "four variables", &families[1].1[4], 10);
-    sample(work, "long distances", &families[2].1[4], 61);
-    println!();
-    println!("| Library, report | Configurations | Growth | Time, least | Growth of the least | Growth of the median |");
+    let reports: Vec<Compared> = all.iter().map(|s| report(cells, s)).collect();
+    sample(cells, "between earlier records", &flows::squeeze(15), 62, all[10].flow);
+    let long = sample(cells, "long", &flows::counter(&[8, 8, 7, 7], 0, 0, 5, false), 62, all[4].flow);
+    sample(cells, "four variables", &all[9].flow.text, 10, all[9].other);
+    sample(cells, "long distances", &all[14].flow.text, 61, all[14].other);
+    println!("\n| Library, report | Configurations | Growth | Time, least | Growth of the least | Growth of the median |");
     println!("|---|---|---|---|---|---|");
-    for ((family, texts), k) in families.iter().zip(sizes) {
-        growth(work, family, (&texts[3], k[3]), (&texts[4], k[4]));
-    }
+    let grown: Vec<Compared> = all.chunks(5).map(|sizes| growth(cells, &sizes[3], &sizes[4])).collect();
+    head("Library, K configurations", "65,536 cells", "K cells");
+    let rooms: Vec<Compared> = all.chunks(5).map(|sizes| room(cells, &sizes[0], sizes[4].other)).collect();
+    #[cfg(before)]
+    let landings: Vec<Compared> = {
+        head("Full table", "Library", "Library before");
+        let rows = &mut before::Rows::new(CELLS);
+        all.iter().map(|s| landing(cells, rows, s)).collect()
+    };
+    println!("\n| Wanted | In this run |\n|---|---|");
+    wanted("a run of 1,000,000 steps within 1.5 times plain Rust", &runs);
+    wanted("a report over 65,536 cells within 1.5 times plain Rust", &[reports[4], reports[9], reports[14]]);
+    wanted("twice the configurations in at most 2.3 times the time", &grown);
+    let (least, median) = (shown(long.one.least), shown(long.one.median));
+    println!("| a sample of distance 20,000 with 2,000 records in under 100 ms | {least}, the median {median} |");
+    wanted("1,000 configurations in 65,536 cells within 1.4 times 1,000 cells", &rooms);
+    #[cfg(before)]
+    wanted("a report with a full table within 1.1 times the library before", &landings);
 }

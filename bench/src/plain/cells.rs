@@ -1,14 +1,18 @@
-//! The lent work rows: entries of two words, found by a hash index with chains.
+//! The lent row of cells: entries of two words, found by a hash index with chains.
 
-pub struct Rows<'a> {
-    pub places: &'a mut [u64],
-    pub patterns: &'a mut [u64],
-    pub distances: &'a mut [u32],
-    pub parents: &'a mut [u32],
-    pub heads: &'a mut [u32],
-    pub nexts: &'a mut [u32],
-    pub fans: &'a mut [u8],
-}
+/// A place and a pattern take two words each, the low half first. The way of a sample takes the place of the marks.
+pub type Cell = [u32; 10];
+const PLACE: usize = 0;
+const PATTERN: usize = 2;
+const DISTANCE: usize = 4;
+const PARENT: usize = 5;
+const HEAD: usize = 6;
+const NEXT: usize = 7;
+const MARKS: usize = 8;
+const WAY: usize = MARKS;
+const BUCKET: usize = 9;
+
+pub struct Cells<'a>(pub &'a mut [Cell]);
 
 const HALF: u64 = 1 << 32;
 
@@ -16,76 +20,109 @@ fn fold(x: u64) -> u64 {
     (x ^ x / HALF) % HALF
 }
 
-fn bucket(place: u64, pattern: u64, cells: usize) -> usize {
-    let low = pattern % HALF * 2654435769;
+fn bucket(place: u64, pattern: u64, size: usize) -> usize {
+    let low = pattern / 65536 % 65536 * 2654435769;
     let high = pattern / HALF * 2246822519;
-    let spot = place % HALF * 3266489917;
-    let once = fold(low ^ high ^ spot ^ place);
-    let twice = fold(once * 2654435769);
-    (twice * cells as u64 / HALF) as usize
+    let mixed = fold(fold(low ^ high) * 2654435769);
+    let lane = pattern % 65536 * (HALF / size as u64);
+    let spread = (mixed + place % HALF * 2654435769 + lane) % HALF;
+    (spread * size as u64 / HALF) as usize
 }
 
-impl Rows<'_> {
-    pub fn cells(&self) -> usize {
-        let table = self.places.len().min(self.patterns.len()).min(self.distances.len()).min(self.parents.len());
-        table.min(self.heads.len()).min(self.nexts.len()).min(self.fans.len()).min(65_536)
+impl Cells<'_> {
+    pub fn size(&self) -> usize {
+        self.0.len().min(65_536)
     }
 
     pub fn clear(&mut self) {
-        self.places.fill(0);
-        self.patterns.fill(0);
-        self.distances.fill(0);
-        self.parents.fill(0);
-        self.heads.fill(0);
-        self.nexts.fill(0);
-        self.fans.fill(0);
+        self.0.fill([0; 10]);
     }
 
-    /// Empties the index and the marks.
-    pub fn begin(&mut self) {
-        self.fans.fill(0);
-        self.heads.fill(0);
+    fn word(&self, i: usize, field: usize) -> u64 {
+        u64::from(self.0[i][field]) + u64::from(self.0[i][field + 1]) * HALF
+    }
+
+    pub fn place(&self, i: usize) -> u64 {
+        self.word(i, PLACE)
+    }
+
+    pub fn pattern(&self, i: usize) -> u64 {
+        self.word(i, PATTERN)
+    }
+
+    pub fn distance(&self, i: usize) -> u32 {
+        self.0[i][DISTANCE]
+    }
+
+    /// Where the entry stands, if it is stored.
+    fn find(&self, first: u32, place: u64, pattern: u64) -> Option<usize> {
+        let mut cur = first as usize;
+        while cur > 0 {
+            let i = cur - 1;
+            if self.place(i) == place && self.pattern(i) == pattern {
+                return Some(i);
+            }
+            cur = self.0[i][NEXT] as usize;
+        }
+        None
+    }
+
+    /// The latest entry of a bucket, counted from 1: its head, if that is an entry of this bucket; else 0.
+    fn latest(&self, count: usize, bucket: usize) -> u32 {
+        let head = self.0[bucket][HEAD];
+        let there = 0 < head && head as usize <= count && self.0[head as usize - 1][BUCKET] as usize == bucket;
+        if there {
+            head
+        } else {
+            0
+        }
     }
 
     /// Stores an entry, unless it is stored: where it stands. None if there is no cell for it.
-    pub fn visit(&mut self, count: &mut usize, cells: usize, place: u64, pattern: u64, distance: u32, parent: usize) -> Option<usize> {
-        let h = bucket(place, pattern, cells);
-        let mut cur = self.heads[h] as usize;
-        while cur > 0 {
-            let i = cur - 1;
-            if self.places[i] == place && self.patterns[i] == pattern {
-                return Some(i);
-            }
-            cur = self.nexts[i] as usize;
-        }
+    pub fn visit(&mut self, count: &mut usize, size: usize, place: u64, pattern: u64, distance: u32, parent: usize) -> Option<usize> {
+        let h = bucket(place, pattern, size);
         let n = *count;
-        if n == cells {
+        let next = self.latest(n, h);
+        if let Some(i) = self.find(next, place, pattern) {
+            return Some(i);
+        }
+        if n == size {
             return None;
         }
-        self.places[n] = place;
-        self.patterns[n] = pattern;
-        self.distances[n] = distance;
-        self.parents[n] = parent as u32;
-        self.nexts[n] = self.heads[h];
-        self.heads[h] = n as u32 + 1;
+        let cell = &mut self.0[n];
+        cell[PLACE] = (place % HALF) as u32;
+        cell[PLACE + 1] = (place / HALF) as u32;
+        cell[PATTERN] = (pattern % HALF) as u32;
+        cell[PATTERN + 1] = (pattern / HALF) as u32;
+        cell[DISTANCE] = distance;
+        cell[PARENT] = parent as u32;
+        cell[NEXT] = next;
+        cell[MARKS] = 0;
+        cell[BUCKET] = h as u32;
+        self.0[h][HEAD] = n as u32 + 1;
         *count += 1;
         Some(n)
     }
 
     pub fn marked(&self, i: usize, v: u8) -> bool {
-        self.fans[i] >> v & 1 == 1
+        self.0[i][MARKS] >> v & 1 == 1
     }
 
     pub fn mark(&mut self, i: usize, v: u8) {
-        self.fans[i] |= 1 << v;
+        self.0[i][MARKS] |= 1 << v;
     }
 
-    /// The way of parents to an entry, by distance, into the row of nexts.
+    /// Entry t of the way that was traced.
+    pub fn way(&self, t: usize) -> usize {
+        self.0[t][WAY] as usize
+    }
+
+    /// The way of parents to an entry, by distance.
     pub fn trace(&mut self, at: usize) {
         let mut i = at;
-        for d in (0..=self.distances[at] as usize).rev() {
-            self.nexts[d] = i as u32;
-            i = self.parents[i] as usize;
+        for d in (0..=self.distance(at) as usize).rev() {
+            self.0[d][WAY] = i as u32;
+            i = self.0[i][PARENT] as usize;
         }
     }
 }

@@ -7,8 +7,9 @@ pub mod running;
 pub mod sampling;
 pub mod searching;
 
-pub use cells::Rows;
+pub use cells::Cell;
 
+use cells::Cells;
 use configuration::{Op, Words};
 use reading::Flow;
 
@@ -19,6 +20,13 @@ pub struct Report {
     pub two: [bool; 64],
     pub p: [u32; 64],
     pub m: [u32; 64],
+}
+
+/// The distance, T and the lengths of the tapes.
+pub struct Sample {
+    pub distance: u32,
+    pub tapes: u8,
+    pub lengths: [usize; 3],
 }
 
 /// A flow prepared for a search.
@@ -44,11 +52,12 @@ impl Plan {
 /// The refusal's number and place.
 pub type Refusal = (u32, u64);
 
-pub fn report(text: &[u8], rows: &mut Rows) -> Result<Report, Refusal> {
+pub fn report(text: &[u8], cells: &mut [Cell]) -> Result<Report, Refusal> {
+    let cells = &mut Cells(cells);
     let reported = reading::read(text).and_then(|flow| {
         let plan = Plan::of(&flow);
-        let n = searching::search(rows, &plan).ok_or((9, 0))?;
-        let (p, m) = searching::exits(rows, n, &plan);
+        let n = searching::search(cells, &plan).ok_or((9, 0))?;
+        let (p, m) = searching::exits(cells, n, &plan);
         let mut two = [false; 64];
         for (two, x) in two.iter_mut().zip(&flow.instructions[..flow.count]) {
             *two = x.kind.two_exits();
@@ -56,32 +65,34 @@ pub fn report(text: &[u8], rows: &mut Rows) -> Result<Report, Refusal> {
         Ok(Report { instructions: flow.count, configurations: n, two, p, m })
     });
     if reported.is_err() {
-        rows.clear();
+        cells.clear();
     }
     reported
 }
 
-/// The distance and the lengths of the tapes; none if no tapes take the exit.
-pub fn sample(text: &[u8], instruction: u64, exit: bool, rows: &mut Rows, row: &mut [i32]) -> Result<Option<(u32, [usize; 3])>, Refusal> {
+/// A sample; none if no tapes take the exit.
+pub fn sample(text: &[u8], instruction: u64, exit: bool, cells: &mut [Cell], row: &mut [i32]) -> Result<Option<Sample>, Refusal> {
+    let cells = &mut Cells(cells);
     let sampled = reading::read(text).and_then(|flow| {
         let there = 1 <= instruction && instruction <= flow.count as u64;
         if !there || !flow.instructions[instruction as usize - 1].kind.two_exits() {
             return Err((11, 0));
         }
         let plan = Plan::of(&flow);
-        let n = searching::search(rows, &plan).ok_or((9, 0))?;
-        let Some(k) = searching::nearest(rows, n, &plan, instruction as usize, exit) else {
+        let n = searching::search(cells, &plan).ok_or((9, 0))?;
+        let Some(k) = searching::nearest(cells, n, &plan, instruction as usize, exit) else {
             return Ok(None);
         };
-        let steps = rows.distances[k] as usize;
+        let steps = cells.distance(k) as usize;
         if row.len() < steps + 1 {
             return Err((10, 0));
         }
-        rows.trace(k);
-        Ok(Some((steps as u32 + 1, sampling::write(rows, steps, &plan, exit, row))))
+        cells.trace(k);
+        let lengths = sampling::write(cells, steps, &plan, exit, row);
+        Ok(Some(Sample { distance: steps as u32 + 1, tapes: flow.tapes, lengths }))
     });
     if sampled.is_err() {
-        rows.clear();
+        cells.clear();
     }
     sampled
 }

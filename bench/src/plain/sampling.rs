@@ -1,6 +1,6 @@
 //! The tapes of a sample, written along the way of parents.
 
-use super::cells::Rows;
+use super::cells::Cells;
 use super::configuration::{self as configuration, Action, Op};
 use super::Plan;
 
@@ -85,10 +85,10 @@ fn takes_record(op: &Op, next: u64) -> bool {
     op.action == Action::Read && !configuration::ended(next, op.tape)
 }
 
-/// A sample for the exit, p if `exit`, of the instruction at the end of the way that stands in the row of nexts.
-pub fn write(rows: &Rows, steps: usize, plan: &Plan, exit: bool, row: &mut [i32]) -> [usize; 3] {
+/// A sample for the exit, p if `exit`, of the instruction at the end of the way that was traced.
+pub fn write(cells: &Cells, steps: usize, plan: &Plan, exit: bool, row: &mut [i32]) -> [usize; 3] {
     let (w, lo, hi) = (plan.w, plan.lo, plan.hi);
-    let place = |t: usize| rows.places[rows.nexts[t] as usize];
+    let place = |t: usize| cells.place(cells.way(t));
     let op = |t: usize| &plan.ops[configuration::at(place(t)) - 1];
     let mut sizes = [0; 3];
     for t in 0..steps {
@@ -105,7 +105,7 @@ pub fn write(rows: &Rows, steps: usize, plan: &Plan, exit: bool, row: &mut [i32]
     for t in 0..steps {
         let op = op(t);
         if takes_record(op, place(t + 1)) {
-            let pattern = rows.patterns[rows.nexts[t + 1] as usize];
+            let pattern = cells.pattern(cells.way(t + 1));
             let wish = [0, 1, 2, 3].map(|u| lo - 16 + configuration::value(configuration::lane(pattern, u), w) as i32);
             walk.read(row, lo, hi, wish, usize::from(op.tape), usize::from(op.variable));
         } else if op.action == Action::Assign {

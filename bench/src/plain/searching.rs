@@ -1,59 +1,61 @@
 //! The breadth-first search over the configurations of a flow.
 
-use super::cells::Rows;
+use super::cells::Cells;
 use super::configuration::{self as configuration, Action, Op, Words};
 use super::Plan;
 
 /// What a read that finds a record leads to from x, which is entry k: its fan, unless the fan is marked.
-fn fan(rows: &mut Rows, n: &mut usize, cells: usize, k: usize, d: u32, op: &Op, w: u64, x: Words) -> Option<()> {
+fn fan(cells: &mut Cells, n: &mut usize, size: usize, k: usize, d: u32, op: &Op, w: u64, x: Words) -> Option<()> {
     if op.action != Action::Read || configuration::ended(x.place, op.tape) {
         return Some(());
     }
     let v = op.variable;
     let first = configuration::take(op, w, x, configuration::LOW);
-    let i = rows.visit(n, cells, first.place, first.pattern, d, k)?;
-    if rows.marked(i, v) {
+    let i = cells.visit(n, size, first.place, first.pattern, d, k)?;
+    if cells.marked(i, v) {
         return Some(());
     }
     for y in configuration::FIRST_TRIAL..=w + configuration::LAST_TRIAL {
         let pattern = configuration::fan_at(first.pattern, w, v, y);
-        rows.visit(n, cells, first.place, pattern, d, k)?;
+        cells.visit(n, size, first.place, pattern, d, k)?;
     }
-    rows.mark(i, v);
+    cells.mark(i, v);
     Some(())
 }
 
 /// The number of reachable configurations; none if there are too few cells.
-pub fn search(rows: &mut Rows, plan: &Plan) -> Option<usize> {
-    let cells = rows.cells();
-    if cells == 0 {
+pub fn search(cells: &mut Cells, plan: &Plan) -> Option<usize> {
+    let size = cells.size();
+    if size == 0 {
         return None;
     }
-    rows.begin();
     let mut n = 0;
-    rows.visit(&mut n, cells, plan.start.place, plan.start.pattern, 0, 0)?;
+    cells.visit(&mut n, size, plan.start.place, plan.start.pattern, 0, 0)?;
     let mut k = 0;
     while k < n {
-        let x = Words { place: rows.places[k], pattern: rows.patterns[k] };
+        let x = Words { place: cells.place(k), pattern: cells.pattern(k) };
         let op = &plan.ops[configuration::at(x.place) - 1];
-        let d = rows.distances[k] + 1;
-        fan(rows, &mut n, cells, k, d, op, plan.w, x)?;
+        let d = cells.distance(k) + 1;
+        fan(cells, &mut n, size, k, d, op, plan.w, x)?;
         let y = configuration::next(op, plan.w, x);
-        rows.visit(&mut n, cells, y.place, y.pattern, d, k)?;
+        cells.visit(&mut n, size, y.place, y.pattern, d, k)?;
         k += 1;
     }
     Some(n)
 }
 
 /// The distances of all exits.
-pub fn exits(rows: &Rows, n: usize, plan: &Plan) -> ([u32; 64], [u32; 64]) {
+pub fn exits(cells: &Cells, n: usize, plan: &Plan) -> ([u32; 64], [u32; 64]) {
     let mut p = [0; 64];
     let mut m = [0; 64];
     for k in 0..n {
-        let x = Words { place: rows.places[k], pattern: rows.patterns[k] };
+        let x = Words { place: cells.place(k), pattern: cells.pattern(k) };
         let i = configuration::at(x.place) - 1;
+        if p[i] != 0 && m[i] != 0 {
+            continue;
+        }
         let taken = configuration::exits_of(&plan.ops[i], plan.w, x);
-        let d = rows.distances[k] + 1;
+        let d = cells.distance(k) + 1;
         if taken.0 && p[i] == 0 {
             p[i] = d;
         }
@@ -65,10 +67,10 @@ pub fn exits(rows: &Rows, n: usize, plan: &Plan) -> ([u32; 64], [u32; 64]) {
 }
 
 /// The first entry that takes the exit.
-pub fn nearest(rows: &Rows, n: usize, plan: &Plan, instruction: usize, exit: bool) -> Option<usize> {
+pub fn nearest(cells: &Cells, n: usize, plan: &Plan, instruction: usize, exit: bool) -> Option<usize> {
     let op = &plan.ops[instruction - 1];
     (0..n).find(|k| {
-        let x = Words { place: rows.places[*k], pattern: rows.patterns[*k] };
+        let x = Words { place: cells.place(*k), pattern: cells.pattern(*k) };
         if configuration::at(x.place) != instruction {
             return false;
         }

@@ -1,12 +1,13 @@
 -- A bucket is one of the cells: half a word times the number of cells, of which the upper half is taken, stays below that number.
 use mathlib.Core.Path.{_≡_}
-use Prim.Native.Nat.{ℕ, _*_, _/_, _≤_, _<_}
-use native.Mathlib.Nat.{mod-lt, div-lt-iff-lt-mul, mul-lt-mul-of-pos-right, mul-le-mul, le-of-lt}
+use Prim.Native.Nat.{ℕ, _*_, _/_, _%_, _≤_, _<_}
+use native.Mathlib.Nat.{mod-lt, div-lt-iff-lt-mul, mul-lt-mul-of-pos-right, mul-le-mul, le-of-lt, div-le-self}
 use native.Mathlib.Omega.{arith}
 use mir.Syntax as syntax
 use mir.Val.{Fits}
 use Rattle.cells.specs.Cells.{mostCells}
-use Rattle.cells.specs.Index.{Node, half, foldOf, bucketOf}
+use Rattle.cells.specs.Columns.{half}
+use Rattle.cells.specs.Index.{Node, foldOf, bucketOf}
 
 fold-below : (x : ℕ) → foldOf x < half
 unfolding foldOf
@@ -22,7 +23,12 @@ scaled-below h cells l some =
 
 pub bucket-below : (x : Node) (cells : ℕ) → 0 < cells → bucketOf x cells < cells
 unfolding bucketOf
-bucket-below x cells some = scaled-below _ cells (fold-below _) some
+bucket-below x cells some = scaled-below _ cells (mod-lt _ (omega arith)) some
+
+-- a lane in steps of a cell
+pub steps-few : (pattern cells : ℕ) → pattern % 65536 * (half / cells) ≤ 65536 * half
+steps-few pattern cells =
+    mul-le-mul {n₁ = pattern % 65536} {m₁ = half / cells} {n₂ = 65536} {m₂ = half} (le-of-lt (mod-lt pattern (omega arith))) (div-le-self half cells)
 
 -- the product fits a word
 pub scaled-fits : (h cells : ℕ) → h < half → cells ≤ mostCells → Fits syntax.w64 (h * cells)

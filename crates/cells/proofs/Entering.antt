@@ -1,17 +1,17 @@
 -- What a new entry leaves and makes: the entries before it stay, and its own cell holds what was given.
 use mathlib.Core.Path.{_≡_, sym, ap, ap₂, _∙_, subst}
 use mathlib.Core.List.{List}
-use Prim.Native.Nat.{ℕ, _≤_, _<_}
+use Prim.Native.Nat.{ℕ, _+_, _≤_, _<_}
 use native.Mathlib.Omega.{arith}
-use lib.ListN.{length, getD, set, replicate, length-replicate}
+use lib.ListN.{length, getD, set, length-set}
 use lib.Seq.{getD-set-same, getD-set-other}
-use Rattle.cells.specs.Cells.{Rows, cellsOf}
-use Rattle.cells.specs.Index.{Node, node}
-use Rattle.cells.specs.Entries.{Entries, entries, nodeOf, distanceOf, parentOf, Filled, Added, Begun}
-use Rattle.cells.specs.Marks.{isMarked}
-use Rattle.cells.proofs.Room.{roomy}
-use Rattle.cells.proofs.Marking.{none-marked}
-use Rattle.cells.proofs.Insertion.{indexed-none}
+use Rattle.cells.specs.Cells.{cellsOf}
+use Rattle.cells.specs.Columns.{placeField, patternField, distanceField, parentField, headField, nextField, marksField, bucketField, entryFields, column, wordColumn, Rows, rowsOf, Only, From, Stored, Entered}
+use Rattle.cells.specs.Index.{Node, node, bucketOf}
+use Rattle.cells.specs.Entries.{Entries, entriesOf, nodeOf, distanceOf, parentOf, Filled, FilledIn, LatestIn, Added, BegunIn}
+use Rattle.cells.proofs.Fields.{length-column, length-word-column, word-only}
+use Rattle.cells.proofs.Marking.{new-unmarked}
+use Rattle.cells.proofs.Insertion.{inserted, buckets-more, indexed-none}
 
 -- a row with a store at count, before it and at it
 before-store : (row row′ : List ℕ) (count i v : ℕ) → row′ ≡ set row count v → i < count → getD row′ i 0 ≡ getD row i 0
@@ -43,29 +43,131 @@ module _ {e e′ : Entries} {count : ℕ} {x : Node} {d p : ℕ} (a : Added e e�
     pub parent-entered : parentOf e′ count ≡ p
     parent-entered = at-store (e .parents) (e′ .parents) count p (a .parents) (omega (arith, f .parent-room))
 
+-- ---- in the cells
+-- what is used is there
+pub room : (c : List (List ℕ)) {count size : ℕ} → FilledIn c count size → size ≤ length c
+room c f = omega (arith, f .index .head-room, length-column headField c)
+
+-- cells of which only the marks are new
+pub remarked : (c c′ : List (List ℕ)) → Only marksField c c′ → (P : Rows → Type 0)
+    → P (record {
+      places = wordColumn placeField c;
+      patterns = wordColumn patternField c;
+      distances = column distanceField c;
+      parents = column parentField c;
+      heads = column headField c;
+      nexts = column nextField c;
+      fans = column marksField c′;
+      buckets = column bucketField c;
+    }) → P (rowsOf c′)
+remarked c c′ o P =
+    subst P
+    (λ i. record {
+      places = sym (word-only placeField c c′ o (omega arith) (omega arith)) i;
+      patterns = sym (word-only patternField c c′ o (omega arith) (omega arith)) i;
+      distances = sym (o distanceField (omega arith)) i;
+      parents = sym (o parentField (omega arith)) i;
+      heads = sym (o headField (omega arith)) i;
+      nexts = sym (o nextField (omega arith)) i;
+      fans = column marksField c′;
+      buckets = sym (o bucketField (omega arith)) i;
+    })
+
+-- an entry in cell `count`, and the head that leads to it
+module _ (c c₁ c₂ : List (List ℕ)) (count size place pattern distance parent next h : ℕ) (f : FilledIn c count size) (l : count < size)
+    (b : h ≡ bucketOf (node place pattern) size) (first : LatestIn c count size h next)
+    (e : Entered count place pattern distance parent next h c c₁) (s : Stored headField h (count + 1) c₁ c₂) where
+  abbrev after : Rows
+  after =
+      record {
+        places = set (wordColumn placeField c) count place;
+        patterns = set (wordColumn patternField c) count pattern;
+        distances = set (column distanceField c) count distance;
+        parents = set (column parentField c) count parent;
+        heads = set (column headField c) h (count + 1);
+        nexts = set (column nextField c) count next;
+        fans = set (column marksField c) count 0;
+        buckets = set (column bucketField c) count h;
+      }
+
+  places : wordColumn placeField c₂ ≡ set (wordColumn placeField c) count place
+  places = word-only placeField c₁ c₂ (s .other) (omega arith) (omega arith) ∙ e .places
+
+  patterns : wordColumn patternField c₂ ≡ set (wordColumn patternField c) count pattern
+  patterns = word-only patternField c₁ c₂ (s .other) (omega arith) (omega arith) ∙ e .patterns
+
+  distances : column distanceField c₂ ≡ set (column distanceField c) count distance
+  distances = s .other distanceField (omega arith) ∙ e .distances
+
+  parents : column parentField c₂ ≡ set (column parentField c) count parent
+  parents = s .other parentField (omega arith) ∙ e .parents
+
+  heads : column headField c₂ ≡ set (column headField c) h (count + 1)
+  heads = s .is ∙ ap (λ (t : List ℕ). set t h (count + 1)) (e .heads)
+
+  nexts : column nextField c₂ ≡ set (column nextField c) count next
+  nexts = s .other nextField (omega arith) ∙ e .nexts
+
+  pub marks-added : column marksField c₂ ≡ set (column marksField c) count 0
+  marks-added = s .other marksField (omega arith) ∙ e .marks
+
+  buckets : column bucketField c₂ ≡ set (column bucketField c) count h
+  buckets = s .other bucketField (omega arith) ∙ e .buckets
+
+  is-after : rowsOf c₂ ≡ after
+  is-after =
+      λ i. record {
+        places = places i;
+        patterns = patterns i;
+        distances = distances i;
+        parents = parents i;
+        heads = heads i;
+        nexts = nexts i;
+        fans = marks-added i;
+        buckets = buckets i;
+      }
+
+  pub added : Added (entriesOf (rowsOf c)) (entriesOf (rowsOf c₂)) count (node place pattern) distance parent
+  added = record { places = places; patterns = patterns; distances = distances; parents = parents }
+
+  pub filled-more : FilledIn c₂ (count + 1) size
+  filled-more =
+      subst (λ (r : Rows). Filled (entriesOf r) (r .heads) (r .nexts) (count + 1) size) (sym is-after)
+      (record {
+        index = inserted _ _ _ _ _ _ _ _ _ _ (f .index) l b first;
+        bucket =
+            buckets-more (wordColumn placeField c) (wordColumn patternField c) (column bucketField c) count size place pattern h (f .bucket)
+            (omega (arith, room c f, l, length-word-column placeField c)) (omega (arith, room c f, l, length-word-column patternField c))
+            (omega (arith, room c f, l, length-column bucketField c)) b;
+        distance-room = simp length-set (f .distance-room);
+        parent-room = simp length-set (f .parent-room);
+      })
+
+  pub rest-kept : From entryFields c c₂
+  rest-kept g m = s .other g (omega arith) ∙ e .rest g m
+
 -- ---- the beginning
--- zeroed heads, and no entry
-pub filled-none : (r : Rows) (heads : List ℕ) (cells : ℕ) → 0 < cells → cells ≤ cellsOf r → heads ≡ replicate (length (r .heads)) 0
-    → Filled (entries (r .places) (r .patterns) (r .distances) (r .parents)) heads (r .nexts) 0 cells
-filled-none r heads cells some room zeros =
-    let long : length heads ≡ length (r .heads) = ap length zeros ∙ simp length-replicate in
-    let fits = roomy r cells room in
+-- cells that hold anything, and no entry
+pub filled-none : (c : List (List ℕ)) (size : ℕ) → 0 < size → size ≤ cellsOf c → FilledIn c 0 size
+filled-none c size some fits =
     record {
       index =
-          indexed-none (r .places) (r .patterns) heads (r .nexts) cells (length (r .heads)) some (fits .few) (fits .places) (fits .patterns)
-          (subst (λ (n : ℕ). cells ≤ n) (sym long) (fits .heads)) (fits .nexts) zeros;
-      distance-room = fits .distances;
-      parent-room = fits .parents;
+          indexed-none (wordColumn placeField c) (wordColumn patternField c) (column headField c) (column nextField c) size some (omega arith)
+          (omega (arith, length-word-column placeField c)) (omega (arith, length-word-column patternField c))
+          (omega (arith, length-column headField c)) (omega (arith, length-column nextField c));
+      bucket = λ i l. absurd (omega arith);
+      distance-room = omega (arith, length-column distanceField c);
+      parent-room = omega (arith, length-column parentField c);
     }
 
 -- and then the start
-pub begun : {e e′ : Entries} {heads nexts heads′ nexts′ fans : List ℕ} {cells : ℕ} {x : Node} → Filled e heads nexts 0 cells → 0 < cells
-    → Added e e′ 0 x 0 0 → Filled e′ heads′ nexts′ 1 cells → (n : ℕ) → fans ≡ replicate n 0 → Begun e′ heads′ nexts′ fans cells x
-begun empty some a filled n zeros =
+pub begun : (c c₁ : List (List ℕ)) {size : ℕ} {x : Node} → FilledIn c 0 size → 0 < size
+    → Added (entriesOf (rowsOf c)) (entriesOf (rowsOf c₁)) 0 x 0 0 → FilledIn c₁ 1 size → column marksField c₁ ≡ set (column marksField c) 0 0 → BegunIn c₁ size x
+begun c c₁ empty some a filled marks =
     record {
       filled = filled;
       node = node-entered a empty some;
       distance = distance-entered a empty some;
       parent = parent-entered a empty some;
-      unmarked = λ i v. ap (λ (t : List ℕ). isMarked t i v) zeros ∙ none-marked n i v;
+      unmarked = λ v. new-unmarked (column marksField c) (column marksField c₁) 0 v marks (omega (arith, room c empty, length-column marksField c));
     }

@@ -1,6 +1,6 @@
 -- The way of parents, written from its end: path holds the entries from place d on, each the parent of the next. Each step back is one
 -- step nearer, so that the entry at place d has distance d, and place 0 holds the first entry.
-use mathlib.Core.Path.{_≡_, refl, sym, ap, _∙_, subst}
+use mathlib.Core.Path.{_≡_, refl, sym, ap, _∙_, subst, subst₂}
 use mathlib.Core.List.{List}
 use mathlib.Core.Logic.{_⊎_, inl, inr}
 use Prim.Native.Nat.{ℕ, _+_, _-_, _≤_, _<_}
@@ -8,7 +8,9 @@ use native.Mathlib.Decide.{ℕ-discrete}
 use native.Mathlib.Omega.{arith}
 use lib.ListN.{length, getD, set, length-set}
 use lib.Seq.{getD-set-same, getD-set-other}
+use Rattle.cells.specs.Columns.{distanceField, parentField, wayField, column, Only, Stored}
 use Rattle.cells.specs.Way.{Parents, Traced}
+use Rattle.cells.proofs.Fields.{length-column}
 
 -- the walk stands at entry i, at place d
 pub record Tracing (distances parents path₀ path : List ℕ) (n at last i d : ℕ) : Type 0 where
@@ -130,3 +132,42 @@ way-later {distances} {parents} {path} ps t d more l = go (ℕ-discrete (getD pa
     go : Dec (getD path d 0 ≡ 0) → 0 < getD path d 0
     go (yes e) = absurd (omega (arith, t .level d l, ap (λ (v : ℕ). getD distances v 0) e, ps .origin))
     go (no e) = omega arith
+
+-- ---- in the cells: the way is written into its field
+module _ (c c₁ : List (List ℕ)) (n at last : ℕ) (ps : Parents (column distanceField c) (column parentField c) n) (l : at < n) (far : last ≡ getD (column distanceField c) at 0)
+    (s : Stored wayField last at c c₁) where
+  pub parents-then : Parents (column distanceField c₁) (column parentField c₁) n
+  parents-then = subst₂ (λ (d p : List ℕ). Parents d p n) (sym (s .other distanceField (omega arith))) (sym (s .other parentField (omega arith))) ps
+
+  pub traced-first : last < length c → Tracing (column distanceField c₁) (column parentField c₁) (column wayField c₁) (column wayField c₁) n at last at last
+  traced-first room =
+      subst (λ (q : List ℕ). Tracing (column distanceField c₁) (column parentField c₁) q q n at last at last) (sym (s .is))
+      (trace-start (column distanceField c₁) (column parentField c₁) (column wayField c) n at last l
+      (far ∙ ap (λ (t : List ℕ). getD t at 0) (sym (s .other distanceField (omega arith)))) (omega (arith, length-column wayField c)))
+
+  pub traced-last : (path : List ℕ) → Traced (column distanceField c₁) (column parentField c₁) path n at last
+      → Traced (column distanceField c) (column parentField c) path n at (getD (column distanceField c) at 0)
+  traced-last path t =
+      subst (λ (m : ℕ). Traced (column distanceField c) (column parentField c) path n at m) far
+      (subst₂ (λ (d p : List ℕ). Traced d p path n at last) (s .other distanceField (omega arith)) (s .other parentField (omega arith)) t)
+
+-- where the loop stands: only the field of the way has changed since it began
+pub record TracingIn (c₀ c : List (List ℕ)) (n at last i d : ℕ) : Type 0 where
+  pub tracing : Tracing (column distanceField c₀) (column parentField c₀) (column wayField c₀) (column wayField c) n at last i d
+  pub only : Only wayField c₀ c
+  pub size : length c ≡ length c₀
+
+module _ (c₀ c c′ : List (List ℕ)) {n at last i d : ℕ} (j : ℕ) (ps : Parents (column distanceField c₀) (column parentField c₀) n) (h : TracingIn c₀ c n at last i d)
+    (more : 0 < d) (e : j ≡ getD (column parentField c) i 0) where
+  pub parent-is : j ≡ getD (column parentField c₀) i 0
+  parent-is = e ∙ ap (λ (t : List ℕ). getD t i 0) (h .only parentField (omega arith))
+
+  pub traced-more : Stored wayField (d - 1) j c c′ → length c′ ≡ length c → TracingIn c₀ c′ n at last j (d - 1)
+  traced-more s size =
+      record {
+        tracing =
+            subst (λ (q : List ℕ). Tracing (column distanceField c₀) (column parentField c₀) (column wayField c₀) q n at last j (d - 1)) (sym (s .is))
+            (trace-more ps (h .tracing) more j parent-is);
+        only = λ g n. s .other g n ∙ h .only g n;
+        size = size ∙ h .size;
+      }

@@ -1,11 +1,12 @@
 // The lent work cells of a search over nodes of two words: found by a hash index with chains, stored, marked, counted and zeroed, and the
 // way of parents of an entry written out. What the nodes mean, and which leads to which, is not known here.
 ghost use mathlib.Core.Path.{_≡_};
-ghost use Prim.Native.Nat.{_+_, _<_, _≤_, min};
-ghost use lib.ListN.{length, getD, set, replicate};
-ghost use Rattle.cells.specs.Cells.{rows, mostCells, cellsOf, Zeroed};
-ghost use Rattle.cells.specs.Index.{node, foldOf, bucketOf, Indexed, FoundIs};
-ghost use Rattle.cells.specs.Entries.{entries, Filled, Added, Begun};
+ghost use Prim.Native.Nat.{_+_, _*_, _/_, _%_, _<_, _≤_, min};
+ghost use lib.ListN.{length, getD, set};
+ghost use Rattle.cells.specs.Cells.{cellWords, mostCells, cellsOf, zeroed};
+ghost use Rattle.cells.specs.Columns.{half, placeField, patternField, distanceField, parentField, marksField, wayField, entryFields, column, wordColumn, rowsOf, Only, From, Stored, Entered};
+ghost use Rattle.cells.specs.Index.{node, foldOf, bucketOf, FoundIs};
+ghost use Rattle.cells.specs.Entries.{entriesOf, FilledIn, LatestIn, Added, BegunIn};
 ghost use Rattle.cells.specs.Marks.{isMarked, marking};
 ghost use Rattle.cells.specs.Way.{Parents, Traced};
 
@@ -20,6 +21,32 @@ pub enum Found {
     Nothing,
 }
 
+// A cell: its words, and which field is where. A place and a pattern take two words each, the lower half first. The way of a sample takes the
+// place of the marks, which only a search needs.
+pub struct Cell;
+
+impl Cell {
+    pub const WORDS: usize = 10;
+
+    pub const PLACE: usize = 0;
+
+    pub const PATTERN: usize = 2;
+
+    pub const DISTANCE: usize = 4;
+
+    pub const PARENT: usize = 5;
+
+    pub const HEAD: usize = 6;
+
+    pub const NEXT: usize = 7;
+
+    pub const MARKS: usize = 8;
+
+    pub const WAY: usize = 8;
+
+    pub const BUCKET: usize = 9;
+}
+
 fn wide(x: u32) -> usize
     ensures { λ r. ⌜ r ≡ x ⌝ }
 {
@@ -32,250 +59,245 @@ fn lesser(a: usize, b: usize) -> usize
     if a < b { a } else { b }
 }
 
-// The cells that the rows make up.
-pub fn cells_of(
-    places: &[u64],
-    patterns: &[u64],
-    distances: &[u32],
-    parents: &[u32],
-    heads: &[u32],
-    nexts: &[u32],
-    fans: &[u8],
-) -> usize
-    ensures { λ r. ⌜ r ≡ cellsOf (rows (now (places .entry)) (now (patterns .entry)) (now (distances .entry)) (now (parents .entry))
-        (now (heads .entry)) (now (nexts .entry)) (now (fans .entry))) ⌝ }
+// ---- the fields of a cell
+fn low(x: u64) -> u32
+    ensures { λ r. ⌜ r ≡ x % half ⌝ }
 {
-    let index = lesser(heads.len(), lesser(nexts.len(), fans.len()));
-    let table = lesser(
-        patterns.len(),
-        lesser(distances.len(), lesser(parents.len(), index)),
-    );
-    lesser(MOST, lesser(places.len(), table))
+    (x % HALF) as u32
 }
 
-pub fn zero8(row: &mut [u8])
-    ensures { λ _. ⌜ now (row .exit) ≡ replicate (length (now (row .entry))) 0 ⌝ }
+fn high(x: u64) -> u32
+    ensures { λ r. ⌜ r ≡ x / half ⌝ }
+{
+    (x / HALF) as u32
+}
+
+fn join(low: u32, high: u32) -> u64
+    ensures { λ r. ⌜ r ≡ low + high * half ⌝ }
+{
+    low as u64 + high as u64 * HALF
+}
+
+// Says how long a cell is.
+fn whole(c: [u32; Cell::WORDS])
+    ensures { λ _. ⌜ length c ≡ cellWords ⌝ }
+{}
+
+// Field f of cell i.
+pub fn get(cells: &[[u32; Cell::WORDS]], i: usize, f: usize) -> u32
+    requires { ⌜ (i < length (now cells)) × (f < cellWords) ⌝ }
+    ensures { λ r. ⌜ r ≡ getD (column f (now (cells .entry))) i 0 ⌝ }
+{
+    cells[i][f]
+}
+
+// The word of 64 bits in fields f and f + 1 of cell i.
+pub fn word(cells: &[[u32; Cell::WORDS]], i: usize, f: usize) -> u64
+    requires { ⌜ (i < length (now cells)) × (f + 1 < cellWords) ⌝ }
+    ensures { λ r. ⌜ r ≡ getD (wordColumn f (now (cells .entry))) i 0 ⌝ }
+{
+    join(cells[i][f], cells[i][f + 1])
+}
+
+// Stores x in field f of cell i.
+pub fn put(cells: &mut [[u32; Cell::WORDS]], i: usize, f: usize, x: u32)
+    requires { ⌜ (i < length (now cells)) × (f < cellWords) ⌝ }
+    ensures { λ _. ⌜ Stored f i x (now (cells .entry)) (now (cells .exit)) ⌝ }
+{
+    whole(cells[i]);
+    cells[i][f] = x;
+}
+
+// ---- all cells
+// The cells that are used.
+pub fn cells_of(cells: &[[u32; Cell::WORDS]]) -> usize
+    ensures { λ r. ⌜ r ≡ cellsOf (now (cells .entry)) ⌝ }
+{
+    lesser(MOST, cells.len())
+}
+
+// Zeroes every word of every cell.
+pub fn clear(cells: &mut [[u32; Cell::WORDS]])
+    ensures { λ _. ⌜ now (cells .exit) ≡ zeroed (now (cells .entry)) ⌝ }
 {
     let mut i = 0;
-    while i < row.len() {
-        row[i] = 0;
+    while i < cells.len() {
+        cells[i] = [0; Cell::WORDS];
         i += 1;
     }
 }
 
-pub fn zero32(row: &mut [u32])
-    ensures { λ _. ⌜ now (row .exit) ≡ replicate (length (now (row .entry))) 0 ⌝ }
-{
-    let mut k = 0;
-    while k < row.len() {
-        row[k] = 0;
-        k += 1;
-    }
-}
-
-pub fn zero64(row: &mut [u64])
-    ensures { λ _. ⌜ now (row .exit) ≡ replicate (length (now (row .entry))) 0 ⌝ }
-{
-    let mut i = 0;
-    while i < row.len() {
-        row[i] = 0;
-        i += 1;
-    }
-}
-
-// Zeroes every cell of every row.
-pub fn clear(
-    places: &mut [u64],
-    patterns: &mut [u64],
-    distances: &mut [u32],
-    parents: &mut [u32],
-    heads: &mut [u32],
-    nexts: &mut [u32],
-    fans: &mut [u8],
-)
-    ensures { λ _. ⌜ Zeroed
-        (rows (now (places .entry)) (now (patterns .entry)) (now (distances .entry)) (now (parents .entry)) (now (heads .entry))
-        (now (nexts .entry)) (now (fans .entry)))
-        (rows (now (places .exit)) (now (patterns .exit)) (now (distances .exit)) (now (parents .exit)) (now (heads .exit))
-        (now (nexts .exit)) (now (fans .exit))) ⌝ }
-{
-    zero64(places);
-    zero64(patterns);
-    zero32(distances);
-    zero32(parents);
-    zero32(heads);
-    zero32(nexts);
-    zero8(fans);
-}
-
+// ---- the index
 fn fold(x: u64) -> u64
     ensures { λ r. ⌜ r ≡ foldOf x ⌝ }
 {
     (x ^ x / HALF) % HALF
 }
 
-// The bucket of a node. Factors of 32 bits spread small numbers over a word; two rounds leave no trace of lanes of 16 bits.
-pub fn bucket(place: u64, pattern: u64, cells: usize) -> usize
-    requires { ⌜ (0 < cells) × (cells ≤ mostCells) ⌝ }
-    ensures { λ r. ⌜ (r ≡ bucketOf (node place pattern) cells) × (r < cells) ⌝ }
+// The bucket of a node. Factors of 32 bits spread small numbers over a word; two rounds leave no trace of the pattern's upper lanes. Nodes that
+// differ in the first lane alone lie side by side, and those that differ in the place alone a fixed way apart, so that what visits them in turn
+// meets neighbouring cells.
+pub fn bucket(place: u64, pattern: u64, size: usize) -> usize
+    requires { ⌜ (0 < size) × (size ≤ mostCells) ⌝ }
+    ensures { λ r. ⌜ (r ≡ bucketOf (node place pattern) size) × (r < size) ⌝ }
 {
-    let low = pattern % HALF * 2654435769;
+    let low = pattern / 65536 % 65536 * 2654435769;
     let high = pattern / HALF * 2246822519;
-    let spot = place % HALF * 3266489917;
-    let once = fold(low ^ high ^ spot ^ place);
-    let twice = fold(once * 2654435769);
-    (twice * cells as u64 / HALF) as usize
+    let mixed = fold(fold(low ^ high) * 2654435769);
+    let lane = pattern % 65536 * (HALF / size as u64);
+    let spread = (mixed + place % HALF * 2654435769 + lane) % HALF;
+    (spread * size as u64 / HALF) as usize
+}
+
+// The latest entry of bucket b. The head counts only if it names an entry of that bucket: else the bucket has none.
+fn first(cells: &[[u32; Cell::WORDS]], count: usize, size: usize, b: usize) -> u32
+    requires { ⌜ FilledIn (now cells) count size ⌝ }
+    requires { ⌜ b < size ⌝ }
+    ensures { λ r. ⌜ LatestIn (now (cells .entry)) count size b r ⌝ }
+{
+    let head = get(cells, b, Cell::HEAD);
+    let h = wide(head);
+    if h == 0 {
+        return 0;
+    }
+    if count < h {
+        return 0;
+    }
+    if wide(get(cells, h - 1, Cell::BUCKET)) == b {
+        return head;
+    }
+    0
 }
 
 // Where the node is stored among the first count entries.
 pub fn find(
-    places: &[u64],
-    patterns: &[u64],
-    heads: &[u32],
-    nexts: &[u32],
+    cells: &[[u32; Cell::WORDS]],
     count: usize,
-    cells: usize,
+    size: usize,
     place: u64,
     pattern: u64,
 ) -> Found
-    requires { ⌜ Indexed (now places) (now patterns) (now heads) (now nexts) count cells ⌝ }
-    ensures { λ r. ⌜ FoundIs (now (places .entry)) (now (patterns .entry)) count (node place pattern) r ⌝ }
+    requires { ⌜ FilledIn (now cells) count size ⌝ }
+    ensures { λ r. ⌜ FoundIs (wordColumn placeField (now (cells .entry))) (wordColumn patternField (now (cells .entry))) count (node place pattern) r ⌝ }
 {
-    let h = bucket(place, pattern, cells);
-    let mut cur = wide(heads[h]);
+    let h = bucket(place, pattern, size);
+    let mut cur = wide(first(cells, count, size, h));
     while 0 < cur {
         let i = cur - 1;
-        if places[i] == place {
-            if patterns[i] == pattern {
+        if word(cells, i, Cell::PLACE) == place {
+            if word(cells, i, Cell::PATTERN) == pattern {
                 return Found::At(i);
             }
         }
-        cur = wide(nexts[i]);
+        cur = wide(get(cells, i, Cell::NEXT));
     }
     Found::Nothing
 }
 
-// Stores a node as entry count, at the head of its bucket's chain.
-pub fn insert(
-    places: &mut [u64],
-    patterns: &mut [u64],
-    heads: &mut [u32],
-    nexts: &mut [u32],
-    count: usize,
-    cells: usize,
+// ---- the entries
+// Writes an entry, with the next of its bucket and no marks, into cell i.
+fn enter(
+    cells: &mut [[u32; Cell::WORDS]],
+    i: usize,
     place: u64,
     pattern: u64,
+    distance: u32,
+    parent: u32,
+    next: u32,
+    bucket: u32,
 )
-    requires { ⌜ Indexed (now places) (now patterns) (now heads) (now nexts) count cells ⌝ }
-    requires { ⌜ count < cells ⌝ }
-    ensures { λ _. ⌜ now (places .exit) ≡ set (now (places .entry)) count place ⌝ }
-    ensures { λ _. ⌜ now (patterns .exit) ≡ set (now (patterns .entry)) count pattern ⌝ }
-    ensures { λ _. ⌜ Indexed (now (places .exit)) (now (patterns .exit)) (now (heads .exit)) (now (nexts .exit)) (count + 1) cells ⌝ }
+    requires { ⌜ i < length (now cells) ⌝ }
+    ensures { λ _. ⌜ Entered i place pattern distance parent next bucket (now (cells .entry)) (now (cells .exit)) ⌝ }
 {
-    let h = bucket(place, pattern, cells);
-    let first = heads[h];
-    places[count] = place;
-    patterns[count] = pattern;
-    nexts[count] = first;
-    heads[h] = (count + 1) as u32;
+    let mut c = cells[i];
+    whole(c);
+    c[Cell::PLACE] = low(place);
+    c[Cell::PLACE + 1] = high(place);
+    c[Cell::PATTERN] = low(pattern);
+    c[Cell::PATTERN + 1] = high(pattern);
+    c[Cell::DISTANCE] = distance;
+    c[Cell::PARENT] = parent;
+    c[Cell::NEXT] = next;
+    c[Cell::MARKS] = 0;
+    c[Cell::BUCKET] = bucket;
+    cells[i] = c;
 }
 
-// Stores an entry: a node with its distance and its parent.
+// Stores an entry, a node with its distance and its parent, as entry count, at the head of its bucket's chain.
 pub fn add(
-    places: &mut [u64],
-    patterns: &mut [u64],
-    distances: &mut [u32],
-    parents: &mut [u32],
-    heads: &mut [u32],
-    nexts: &mut [u32],
+    cells: &mut [[u32; Cell::WORDS]],
     count: usize,
-    cells: usize,
+    size: usize,
     place: u64,
     pattern: u64,
     distance: u32,
     parent: u32,
 )
-    requires { ⌜ Filled (entries (now places) (now patterns) (now distances) (now parents)) (now heads) (now nexts) count cells ⌝ }
-    requires { ⌜ count < cells ⌝ }
-    ensures { λ _. ⌜ Added
-        (entries (now (places .entry)) (now (patterns .entry)) (now (distances .entry)) (now (parents .entry)))
-        (entries (now (places .exit)) (now (patterns .exit)) (now (distances .exit)) (now (parents .exit)))
+    requires { ⌜ FilledIn (now cells) count size ⌝ }
+    requires { ⌜ count < size ⌝ }
+    ensures { λ _. ⌜ Added (entriesOf (rowsOf (now (cells .entry)))) (entriesOf (rowsOf (now (cells .exit))))
         count (node place pattern) distance parent ⌝ }
-    ensures { λ _. ⌜ Filled
-        (entries (now (places .exit)) (now (patterns .exit)) (now (distances .exit)) (now (parents .exit)))
-        (now (heads .exit)) (now (nexts .exit)) (count + 1) cells ⌝ }
+    ensures { λ _. ⌜ FilledIn (now (cells .exit)) (count + 1) size ⌝ }
+    ensures { λ _. ⌜ column marksField (now (cells .exit)) ≡ set (column marksField (now (cells .entry))) count 0 ⌝ }
+    ensures { λ _. ⌜ From entryFields (now (cells .entry)) (now (cells .exit)) ⌝ }
 {
-    insert(places, patterns, heads, nexts, count, cells, place, pattern);
-    distances[count] = distance;
-    parents[count] = parent;
-}
-
-// Empties the index and the marks, and stores the start as entry 0.
-pub fn begin(
-    places: &mut [u64],
-    patterns: &mut [u64],
-    distances: &mut [u32],
-    parents: &mut [u32],
-    heads: &mut [u32],
-    nexts: &mut [u32],
-    fans: &mut [u8],
-    cells: usize,
-    place: u64,
-    pattern: u64,
-)
-    requires { ⌜ 0 < cells ⌝ }
-    requires { ⌜ cells ≤ cellsOf (rows (now places) (now patterns) (now distances) (now parents) (now heads) (now nexts) (now fans)) ⌝ }
-    ensures { λ _. ⌜ Begun
-        (entries (now (places .exit)) (now (patterns .exit)) (now (distances .exit)) (now (parents .exit)))
-        (now (heads .exit)) (now (nexts .exit)) (now (fans .exit)) cells (node place pattern) ⌝ }
-{
-    zero8(fans);
-    zero32(heads);
-    add(
-        places,
-        patterns,
-        distances,
-        parents,
-        heads,
-        nexts,
-        0,
+    let h = bucket(place, pattern, size);
+    let next = first(cells, count, size, h);
+    enter(
         cells,
+        count,
         place,
         pattern,
-        0,
-        0,
+        distance,
+        parent,
+        next,
+        h as u32,
     );
+    put(cells, h, Cell::HEAD, (count + 1) as u32);
+}
+
+// Stores the start as entry 0, whatever the cells hold.
+pub fn begin(cells: &mut [[u32; Cell::WORDS]], size: usize, place: u64, pattern: u64)
+    requires { ⌜ 0 < size ⌝ }
+    requires { ⌜ size ≤ cellsOf (now cells) ⌝ }
+    ensures { λ _. ⌜ BegunIn (now (cells .exit)) size (node place pattern) ⌝ }
+{
+    add(cells, 0, size, place, pattern, 0, 0);
 }
 
 // Whether entry i is marked for variable v.
-pub fn marked(fans: &[u8], i: usize, v: usize) -> bool
-    requires { ⌜ (i < length (now fans)) × (v < 8) ⌝ }
-    ensures { λ r. ⌜ r ≡ isMarked (now (fans .entry)) i v ⌝ }
+pub fn marked(cells: &[[u32; Cell::WORDS]], i: usize, v: usize) -> bool
+    requires { ⌜ (i < length (now cells)) × (v < 32) ⌝ }
+    ensures { λ r. ⌜ r ≡ isMarked (column marksField (now (cells .entry))) i v ⌝ }
 {
-    (fans[i] >> v) % 2 == 1
+    (get(cells, i, Cell::MARKS) >> v) % 2 == 1
 }
 
 // Marks entry i for variable v.
-pub fn mark(fans: &mut [u8], i: usize, v: usize)
-    requires { ⌜ (i < length (now fans)) × (v < 8) ⌝ }
-    ensures { λ _. ⌜ now (fans .exit) ≡ marking (now (fans .entry)) i v ⌝ }
+pub fn mark(cells: &mut [[u32; Cell::WORDS]], i: usize, v: usize)
+    requires { ⌜ (i < length (now cells)) × (v < 32) ⌝ }
+    ensures { λ _. ⌜ column marksField (now (cells .exit)) ≡ marking (column marksField (now (cells .entry))) i v ⌝ }
+    ensures { λ _. ⌜ Only marksField (now (cells .entry)) (now (cells .exit)) ⌝ }
 {
-    fans[i] = fans[i] | 1 << v;
+    let m = get(cells, i, Cell::MARKS) | 1 << v;
+    put(cells, i, Cell::MARKS, m);
 }
 
-// Writes the way of parents to an entry into path, by distance.
-pub fn trace(distances: &[u32], parents: &[u32], path: &mut [u32], n: usize, at: usize)
-    requires { ⌜ Parents (now distances) (now parents) n ⌝ }
+// Writes the way of parents to an entry, by distance: cell d holds which entry of the way has distance d.
+pub fn trace(cells: &mut [[u32; Cell::WORDS]], n: usize, at: usize)
+    requires { ⌜ Parents (column distanceField (now cells)) (column parentField (now cells)) n ⌝ }
     requires { ⌜ at < n ⌝ }
-    requires { ⌜ getD (now distances) at 0 < length (now path) ⌝ }
-    ensures { λ _. ⌜ Traced (now (distances .entry)) (now (parents .entry)) (now (path .exit)) n at (getD (now (distances .entry)) at 0) ⌝ }
+    requires { ⌜ getD (column distanceField (now cells)) at 0 < length (now cells) ⌝ }
+    ensures { λ _. ⌜ Traced (column distanceField (now (cells .entry))) (column parentField (now (cells .entry))) (column wayField (now (cells .exit))) n at
+        (getD (column distanceField (now (cells .entry))) at 0) ⌝ }
+    ensures { λ _. ⌜ Only wayField (now (cells .entry)) (now (cells .exit)) ⌝ }
 {
     let mut i = at;
-    let mut d = wide(distances[at]);
-    path[d] = at as u32;
+    let mut d = wide(get(cells, at, Cell::DISTANCE));
+    put(cells, d, Cell::WAY, at as u32);
     while 0 < d {
-        i = wide(parents[i]);
+        i = wide(get(cells, i, Cell::PARENT));
         d -= 1;
-        path[d] = i as u32;
+        put(cells, d, Cell::WAY, i as u32);
     }
 }

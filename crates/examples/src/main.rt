@@ -1,5 +1,6 @@
 // The pieces of document 01 and the flows of flows/, run and printed. Of a run: the end, the steps and the puts, then how often each
 // exit of the first instructions was taken. Of a flow: its report. The stored output has what the document says.
+use tape_maker::Cell;
 use tape_maker::RunAnswer;
 use tape_maker::RunEnd;
 
@@ -61,31 +62,19 @@ fn merge(row: &[i32], a: usize, b: usize) {
     print_run(tape_maker::run(text, 1000, row, &lengths, &mut numbers, &mut values));
 }
 
-// The report of flow A with 19 cells in every work row but one.
-fn report_a(places: &mut [u64]) {
-    let mut patterns = [0u64; 19];
-    let mut distances = [0u32; 19];
-    let mut parents = [0u32; 19];
-    let mut heads = [0u32; 19];
-    let mut nexts = [0u32; 19];
-    let mut fans = [0u8; 19];
+// The report of flow A with these cells.
+fn report_a(cells: &mut [[u32; Cell::WORDS]]) {
     show::report(tape_maker::report(
         b"flow,1,0,1\n1,read,1,1,2,3\n2,over,5,1,1,3\n3,stop\n",
-        places,
-        &mut patterns,
-        &mut distances,
-        &mut parents,
-        &mut heads,
-        &mut nexts,
-        &mut fans,
+        cells,
     ));
 }
 
-// Flow A with 18, 19 and 0 cells: the shortest row counts.
+// Flow A with 18, 19 and 0 cells.
 fn cells() {
-    let mut few = [0u64; 18];
-    let mut enough = [0u64; 19];
-    let mut no = [0u64; 0];
+    let mut few = [[0u32; Cell::WORDS]; 18];
+    let mut enough = [[0u32; Cell::WORDS]; 19];
+    let mut no = [[0u32; Cell::WORDS]; 0];
     report_a(&mut few);
     report_a(&mut enough);
     report_a(&mut no);

@@ -9,3 +9,4 @@ pub mod LegalLaws
 pub mod WriteLineLaws
 pub mod WriteSizeLaws
 pub mod WriteLaws
+pub mod Places

@@ -1,6 +1,6 @@
--- The fan of a read. Its members are visited one after the other, and then the first one is marked. The mark keeps its meaning while the table
--- grows, since what is stored stays stored; so a read whose fan is marked leads to nothing that is not stored.
-use mathlib.Core.Path.{_≡_, refl, sym, ap, _∙_, subst, subst₂}
+-- The fan of a read. Its first member is visited and marked, and then its members are visited one after the other; so a read whose fan is
+-- marked leads to nothing that is not stored.
+use mathlib.Core.Path.{_≡_, refl, sym, ap, _∙_, subst}
 use mathlib.Core.Bool.{Bool, true, false, not}
 use mathlib.Core.List.{List}
 use mathlib.Core.Logic.{_⊎_, inl, inr}
@@ -10,37 +10,34 @@ use native.Mathlib.Nat.{eq-or-lt-of-le}
 use native.Mathlib.Omega.{arith}
 use lib.ListN.{length}
 use Rattle.model.specs.Machine.{p-exit}
-use Rattle.graph.proofs.Table.{Table, Held, Extends, held-kept}
+use Rattle.graph.proofs.Table.{Held}
 use Rattle.configuration.specs.Pattern.{Width, low, assignOf}
 use Rattle.configuration.specs.Place.{words}
 use Rattle.configuration.specs.Step.{endedOf, nextOf, takeOf, memberOf}
-use Rattle.configuration.specs.Graph.{Trial, Edge, moves, takes}
+use Rattle.configuration.specs.Graph.{Edge, moves, takes}
 use Rattle.configuration.specs.declared.Words.{Words}
 use Rattle.configuration.specs.declared.Op.{Op}
 use Rattle.configuration.specs.declared.Action.{Action}
 use Rattle.configuration.specs.declared.Action.the-variants.{Read, Assign, Test, Go, Stop}
 use Rattle.configuration.proofs.Members.{member-edge, edge-closed, first-again}
-use Rattle.cells.specs.Cells.{Rows, rows}
-use Rattle.cells.specs.Entries.{Entries, Filled}
-use Rattle.cells.specs.Marks.{isMarked, marking}
-use Rattle.cells.proofs.Marking.{mark-either}
+use Rattle.cells.specs.Columns.{Rows}
+use Rattle.cells.specs.Entries.{Entries, entriesOf, Filled}
+use Rattle.cells.specs.Marks.{isMarked, marking, Fresh}
 use Rattle.table.specs.Table.{tableOf}
-use Rattle.growth.specs.Growth.{entriesOf, Grows, Outgrown, Met, Kept, VisitedIs, grownOf}
-use Rattle.growth.specs.Fan.{Member, MembersIs, Marked, Ready, Leads, opensBy, opensOf, InFan, Fine, GrownIs}
+use Rattle.growth.specs.Growth.{Outgrown, Met, Kept, VisitedIs, grownOf}
+use Rattle.growth.specs.Fan.{Member, MembersIs, Marked, FreshIs, Ready, Leads, opensBy, opensOf, InFan, Fine, GrownIs}
 use Rattle.growth.specs.declared.Visited.{Visited}
 use Rattle.growth.specs.declared.Visited.the-variants.{At, Full as None}
 use Rattle.growth.specs.declared.Grown.{Grown}
 use Rattle.growth.specs.declared.Grown.the-variants.{To, Full}
 use Rattle.growth.proofs.Growing.{grows-extends, grows-then, grows-wider, outgrown-then, outgrown-wider, kept-none, kept-visit, outgrown-visit, met-count, kept-count}
 use Rattle.growth.proofs.Visiting.{visited-at, visited-full}
+use Rattle.growth.proofs.Marks.{true-false, fresh-at, marked-kept, marked-more}
 
 -- ---- a read that can find a record
 pub opens-by : (op : Op) (x : Words) (a : Action) (b : Bool) → op .action ≡ a → b ≡ opensBy a op x → b ≡ opensOf op x
 unfolding opensOf
 opens-by op x a b e h = h ∙ ap (λ (a : Action). opensBy a op x) (sym e)
-
-pub true-false : true ≡ false → ⊥
-true-false e = let z : _≡_ {A = ℕ} 0 1 = cc in omega arith
 
 not-true : (b : Bool) → not b ≡ true → b ≡ false
 not-true true e = absurd (true-false (sym e))
@@ -105,22 +102,6 @@ module _ (w v : ℕ) (f : Words) {e₀ : Entries} {count cells d k : ℕ} where
           grows = kept .grows;
           all = λ z m. kept .all z (m .0, m .1 .first, omega (arith, m .1 .last), m .2);
         }
-
--- ---- marks
-pub marked-kept : (w : ℕ) (fans : List ℕ) {t t′ : Table Words} → Extends t t′ → Marked w fans t → Marked w fans t′
-marked-kept w fans {t} {t′} g m i v is =
-    let (below, whole) = m i v is in
-    (omega (arith, g .more), λ u tr. subst (λ (f : Words). Held t′ (memberOf w v f u)) (sym (g .nodes i below)) (held-kept g (whole u tr)))
-
--- one mark more, of an entry whose fan is stored
-pub marked-more : (w : ℕ) (fans : List ℕ) {t : Table Words} → Marked w fans t → (i v : ℕ) → i < t .count → i < length fans
-    → ((u : ℕ) → Trial w u → Held t (memberOf w v (t .node i) u)) → Marked w (marking fans i v) t
-marked-more w fans {t} m i v below room whole j u is = go (mark-either fans i v room j u is)
-  where
-    go : ((j ≡ i) × (u ≡ v)) ⊎ (isMarked fans j u ≡ true) → (j < t .count) × ((y : ℕ) → Trial w y → Held t (memberOf w u (t .node j) y))
-    go (inl (a, b)) =
-        (omega arith, λ y tr. subst₂ (λ (j u : ℕ). Held t (memberOf w u (t .node j) y)) (sym a) (sym b) (whole y tr))
-    go (inr o) = m j u o
 
 -- ---- the fan of a read that leads from x
 module _ {w : ℕ} {op : Op} {x : Words} (fine : Fine w op x) where
@@ -188,47 +169,39 @@ module _ {w : ℕ} {op : Op} {x : Words} (fine : Fine w op x) where
         begun = kept-visit nothing f′ first-wanted met (λ z. ⊥) (λ z a. inl a)
 
         -- its fan is marked
-        pub fan-marked : (fans : List ℕ) → Marked w fans (tableOf e count) → isMarked fans i v ≡ true
-            → Kept (Leads w op x) (InFan w op x) e e₁ heads₁ nexts₁ count cells d k n × Marked w fans (tableOf e₁ n)
+        pub fan-marked : (fans fans₁ : List ℕ) → Marked w fans (tableOf e count) → Fresh fans fans₁ count n → isMarked fans₁ i v ≡ true
+            → Kept (Leads w op x) (InFan w op x) e e₁ heads₁ nexts₁ count cells d k n × Marked w fans₁ (tableOf e₁ n)
         unfolding tableOf
-        fan-marked fans marks is = (record { filled = met .filled; grows = begun .grows; all = held }, later)
+        fan-marked fans fans₁ marks fresh is = (record { filled = met .filled; grows = begun .grows; all = held }, later)
           where
-            later : Marked w fans (tableOf e₁ n)
-            later = marked-kept w fans (grows-extends (begun .grows)) marks
+            later : Marked w fans₁ (tableOf e₁ n)
+            later = marked-kept w fans fans₁ (grows-extends (begun .grows)) fresh marks
 
             held : (z : Words) → InFan w op x z → Held (tableOf e₁ n) z
             held z m =
                 let (u, tr, s) = member-own z m in
-                subst (Held (tableOf e₁ n)) (ap (λ (g : Words). memberOf w v g u) (met .is) ∙ s) (later i v is .1 u tr)
+                subst (Held (tableOf e₁ n)) (ap (λ (g : Words). memberOf w v g u) (met .is) ∙ s) (later i v (met .below) is u tr)
 
         -- no cell is left for a member
         pub fan-full : Outgrown (Member w v f′) d k (tableOf e₁ n) cells → Outgrown (Leads w op x) d k (tableOf e count) cells
         fan-full g = outgrown-then (begun .grows) (outgrown-wider member-wanted g)
 
-        -- the fan is stored, and gets its mark
+        -- it gets its mark, and the fan is stored
         pub fan-all : {e₂ : Entries} {heads₂ nexts₂ : List ℕ} {m : ℕ}
             → Kept (Member w v f′) (Member w v f′) e₁ e₂ heads₂ nexts₂ n cells d k m
-            → (fans fans′ : List ℕ) → Marked w fans (tableOf e count) → i < length fans → fans′ ≡ marking fans i v
-            → Kept (Leads w op x) (InFan w op x) e e₂ heads₂ nexts₂ count cells d k m × Marked w fans′ (tableOf e₂ m)
+            → (fans fans₁ fans₂ : List ℕ) → Marked w fans (tableOf e count) → Fresh fans fans₁ count n → i < length fans₁
+            → Fresh (marking fans₁ i v) fans₂ n m
+            → Kept (Leads w op x) (InFan w op x) e e₂ heads₂ nexts₂ count cells d k m × Marked w fans₂ (tableOf e₂ m)
         unfolding tableOf
-        fan-all {e₂} {m = m} kept fans fans′ marks room is = (
-          record { filled = kept .filled; grows = grown; all = λ z a. kept .all z (member-own z a) },
-          subst (λ (l : List ℕ). Marked w l (tableOf e₂ m)) (sym is)
-              (marked-more w fans (marked-kept w fans (grows-extends grown) marks) i v below room
-              (λ u tr. kept .all (memberOf w v (tableOf e₂ m .node i) u) (u, tr, ap (λ (g : Words). memberOf w v g u) (sym entry)))),
+        fan-all kept fans fans₁ fans₂ marks fresh room fresh′ = (
+          record {
+            filled = kept .filled;
+            grows = grows-then (begun .grows) (grows-wider member-wanted (kept .grows));
+            all = λ z a. kept .all z (member-own z a);
+          },
+          marked-more w fans₁ fans₂ (grows-extends (kept .grows)) (marked-kept w fans fans₁ (grows-extends (begun .grows)) fresh marks) i v room fresh′
+              (λ u tr. kept .all _ (u, tr, ap (λ (g : Words). memberOf w v g u) (sym (met .is)))),
         )
-          where
-            grown : Grows (Leads w op x) d k (tableOf e count) (tableOf e₂ m)
-            grown = grows-then (begun .grows) (grows-wider member-wanted (kept .grows))
-
-            onward : Extends (tableOf e₁ n) (tableOf e₂ m)
-            onward = grows-extends (kept .grows)
-
-            below : i < m
-            below = omega (arith, met .below, onward .more)
-
-            entry : tableOf e₂ m .node i ≡ f′
-            entry = onward .nodes i (met .below) ∙ met .is
 
   -- ---- the whole entry: the fan, and then the step that reads no record
   module _ {e e₁ : Entries} {heads nexts : List ℕ} {count cells d k n : ℕ}
@@ -239,11 +212,13 @@ module _ {w : ℕ} {op : Op} {x : Words} (fine : Fine w op x) where
     pub expand-full : Outgrown (λ z. z ≡ y) d k (tableOf e₁ n) cells → Outgrown (Leads w op x) d k (tableOf e count) cells
     expand-full = outgrown-visit kept y next-wanted
 
-    pub expand-all : {e₂ : Entries} {heads₂ nexts₂ : List ℕ} {i m : ℕ} → Met e₁ e₂ heads₂ nexts₂ n cells d k y i m → (fans : List ℕ)
-        → Marked w fans (tableOf e₁ n) → Kept (Leads w op x) (Leads w op x) e e₂ heads₂ nexts₂ count cells d k m × Marked w fans (tableOf e₂ m)
-    expand-all met fans marks = (
+    pub expand-all : {e₂ : Entries} {heads₂ nexts₂ : List ℕ} {i m : ℕ} → Met e₁ e₂ heads₂ nexts₂ n cells d k y i m → (fans fans′ : List ℕ)
+        → Marked w fans (tableOf e₁ n) → Fresh fans fans′ n m
+        → Kept (Leads w op x) (Leads w op x) e e₂ heads₂ nexts₂ count cells d k m × Marked w fans′ (tableOf e₂ m)
+    unfolding tableOf
+    expand-all met fans fans′ marks fresh = (
       kept-visit kept y next-wanted met (Leads w op x) (λ z l. either z (leads-either z l)),
-      marked-kept w fans (grows-extends (met .grows)) marks,
+      marked-kept w fans fans′ (grows-extends (met .grows)) fresh marks,
     )
       where
         either : (z : Words) → InFan w op x z ⊎ (z ≡ nextOf w op x) → InFan w op x z ⊎ (z ≡ y)
@@ -292,18 +267,21 @@ module _ {w : ℕ} {op : Op} {x : Words} (fine : Fine w op x) {r : Rows} {count 
       first-ready l = (met .filled, (omega (arith, met-count met), (fine .width, first-own fine o f′ q)))
 
       -- the fan is marked
-      pub marked-answer : isMarked (r .fans) i (op .variable) ≡ true
-          → FanIs (rows (e₁ .places) (e₁ .patterns) (e₁ .distances) (e₁ .parents) heads₁ nexts₁ (r .fans)) (To n)
+      pub marked-answer : (fans : List ℕ) → FreshIs (r .fans) fans count (grownOf s) → isMarked fans i (op .variable) ≡ true
+          → FanIs (record { places = e₁ .places; patterns = e₁ .patterns; distances = e₁ .distances; parents = e₁ .parents; heads = heads₁; nexts = nexts₁; fans = fans; buckets = e₁ .buckets }) (To n)
       unfolding GrownIs
-      marked-answer is = fan-marked fine o q (ready .filled) met (r .fans) (ready .marked) is
+      marked-answer fans fresh is =
+          fan-marked fine o q (ready .filled) met (r .fans) fans (ready .marked) (fresh-at (r .fans) fans count s fresh e) is
 
       -- the members are visited, with the mark set
-      pub members-answer : (r′ : Rows) → r′ .fans ≡ marking (r .fans) i (op .variable) → (g : Grown)
+      pub members-answer : (fans₁ fans₂ : List ℕ) → FreshIs (r .fans) fans₁ count (grownOf s) → length fans₁ ≡ length (r .fans)
+          → fans₂ ≡ marking fans₁ i (op .variable) → (r′ : Rows) (g : Grown) → FreshIs fans₂ (r′ .fans) n g
           → MembersIs w (op .variable) f′ e₁ (entriesOf r′) (r′ .heads) (r′ .nexts) n cells d k g → FanIs r′ g
-      unfolding GrownIs MembersIs
-      members-answer r′ set (To m) kept =
-          fan-all fine o q (ready .filled) met kept (r .fans) (r′ .fans) (ready .marked) (mark-room .0) set
-      members-answer r′ set Full over = fan-full fine o q (ready .filled) met over
+      unfolding GrownIs MembersIs FreshIs
+      members-answer fans₁ fans₂ fresh long set r′ (To m) fresh′ kept =
+          fan-all fine o q (ready .filled) met kept (r .fans) fans₁ (r′ .fans) (ready .marked) (fresh-at (r .fans) fans₁ count s fresh e)
+          (omega (arith, mark-room .0, long)) (subst (λ (l : List ℕ). Fresh l (r′ .fans) n m) set fresh′)
+      members-answer fans₁ fans₂ fresh long set r′ Full fresh′ over = fan-full fine o q (ready .filled) met over
 
 -- ---- what `expand` answers
 module _ {w : ℕ} {op : Op} {x : Words} (fine : Fine w op x) (r r′ : Rows) (count cells d k : ℕ) (g : Grown)
@@ -319,15 +297,16 @@ module _ {w : ℕ} {op : Op} {x : Words} (fine : Fine w op x) (r r′ : Rows) (c
     next-ready l = let kept = grown-to _ _ w r r′ count cells d k g fanned e .0 in (kept .filled, omega (arith, kept-count kept))
 
     -- the next words are visited
-    pub next-answer : {y : Words} → y ≡ nextOf w op x → (r″ : Rows) → r″ .fans ≡ r′ .fans → (s : Visited)
+    pub next-answer : {y : Words} → y ≡ nextOf w op x → (r″ : Rows) (s : Visited) → FreshIs (r′ .fans) (r″ .fans) n (grownOf s)
         → VisitedIs (entriesOf r′) (entriesOf r″) (r″ .heads) (r″ .nexts) n cells d k y s → {g′ : Grown} → g′ ≡ grownOf s
         → GrownIs (Leads w op x) (Leads w op x) w r r″ count cells d k g′
-    unfolding GrownIs grownOf VisitedIs
-    next-answer {y} is r″ same s visited e′ = subst (GrownIs (Leads w op x) (Leads w op x) w r r″ count cells d k) (sym e′) (go s visited)
+    unfolding GrownIs grownOf VisitedIs FreshIs
+    next-answer {y} is r″ s fresh visited e′ = subst (GrownIs (Leads w op x) (Leads w op x) w r r″ count cells d k) (sym e′) (go s fresh visited)
       where
-        go : (s : Visited) → VisitedIs (entriesOf r′) (entriesOf r″) (r″ .heads) (r″ .nexts) n cells d k y s
+        go : (s : Visited) → FreshIs (r′ .fans) (r″ .fans) n (grownOf s)
+            → VisitedIs (entriesOf r′) (entriesOf r″) (r″ .heads) (r″ .nexts) n cells d k y s
             → GrownIs (Leads w op x) (Leads w op x) w r r″ count cells d k (grownOf s)
-        go (At i m) met =
-            let (kept, marks) = expand-all fine (grown-to _ _ w r r′ count cells d k g fanned e .0) y is met (r′ .fans) (grown-to _ _ w r r′ count cells d k g fanned e .1) in
-            (kept, subst (λ (l : List ℕ). Marked w l (tableOf (entriesOf r″) m)) (sym same) marks)
-        go None over = expand-full fine (grown-to _ _ w r r′ count cells d k g fanned e .0) y is over
+        go (At i m) fresh met =
+            expand-all fine (grown-to _ _ w r r′ count cells d k g fanned e .0) y is met (r′ .fans) (r″ .fans)
+            (grown-to _ _ w r r′ count cells d k g fanned e .1) fresh
+        go None fresh over = expand-full fine (grown-to _ _ w r r′ count cells d k g fanned e .0) y is over

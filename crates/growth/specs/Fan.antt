@@ -15,11 +15,11 @@ use Rattle.configuration.specs.declared.Op.{Op}
 use Rattle.configuration.specs.declared.Action.{Action}
 use Rattle.configuration.specs.declared.Action.the-variants.{Read, Assign, Test, Go, Stop}
 use Rattle.configuration.proofs.Lanes.{Valid}
-use Rattle.cells.specs.Cells.{Rows}
-use Rattle.cells.specs.Entries.{Entries, Filled}
-use Rattle.cells.specs.Marks.{isMarked}
+use Rattle.cells.specs.Columns.{marksField, column, Rows, rowsOf}
+use Rattle.cells.specs.Entries.{Entries, entriesOf, Filled}
+use Rattle.cells.specs.Marks.{isMarked, Fresh}
 use Rattle.table.specs.Table.{tableOf}
-use Rattle.growth.specs.Growth.{entriesOf, Outgrown, Kept}
+use Rattle.growth.specs.Growth.{Outgrown, Kept}
 use Rattle.growth.specs.declared.Grown.{Grown}
 use Rattle.growth.specs.declared.Grown.the-variants.{To, Full}
 
@@ -32,10 +32,22 @@ unfoldable pub MembersIs : (w v : ℕ) → Words → (e e′ : Entries) (heads n
 MembersIs w v f e e′ heads nexts count cells d k (To n) = Kept (Member w v f) (Member w v f) e e′ heads nexts count cells d k n
 MembersIs w v f e e′ heads nexts count cells d k Full = Outgrown (Member w v f) d k (tableOf e count) cells
 
--- a mark of entry i for v says that the fan over v whose first member is entry i is stored whole
+abbrev pub MembersIn : (w v : ℕ) → Words → (c c′ : List (List ℕ)) (count cells d k : ℕ) → Grown → Type 0
+MembersIn w v f c c′ = MembersIs w v f (entriesOf (rowsOf c)) (entriesOf (rowsOf c′)) (rowsOf c′ .heads) (rowsOf c′ .nexts)
+
+-- ---- marks
+-- a mark of entry i for v says that the fan over v whose first member is entry i is stored whole; a cell with no entry may hold any marks
 abbrev pub Marked : ℕ → List ℕ → Table Words → Type 0
 Marked w fans t =
-    (i v : ℕ) → isMarked fans i v ≡ true → (i < t .count) × ((u : ℕ) → Trial w u → Held t (memberOf w v (t .node i) u))
+    (i v : ℕ) → i < t .count → isMarked fans i v ≡ true → (u : ℕ) → Trial w u → Held t (memberOf w v (t .node i) u)
+
+-- visits mark none of the entries that they add, and leave the marks of those that were there
+unfoldable pub FreshIs : (fans fans′ : List ℕ) (count : ℕ) → Grown → Type 0
+FreshIs fans fans′ count (To n) = Fresh fans fans′ count n
+FreshIs fans fans′ count Full = Fresh fans fans′ count count
+
+abbrev pub FreshIn : (c c′ : List (List ℕ)) (count : ℕ) → Grown → Type 0
+FreshIn c c′ = FreshIs (column marksField c) (column marksField c′)
 
 -- what a search keeps in the rows
 pub record Ready (w : ℕ) (r : Rows) (count cells : ℕ) : Type 0 where

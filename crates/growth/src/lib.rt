@@ -6,10 +6,11 @@
 ghost use mathlib.Core.Path.{_≡_};
 ghost use Prim.Native.Nat.{_<_};
 ghost use Rattle.configuration.specs.Pattern.{Width, low, assignOf};
-ghost use Rattle.cells.specs.Cells.{rows};
-ghost use Rattle.cells.specs.Entries.{entries, Filled};
-ghost use Rattle.growth.specs.Growth.{VisitedIs, grownOf};
-ghost use Rattle.growth.specs.Fan.{MembersIs, Ready, Leads, opensOf, InFan, Fine, GrownIs};
+ghost use Rattle.cells.specs.Columns.{entryFields, rowsOf, From};
+ghost use Rattle.cells.specs.Entries.{FilledIn};
+ghost use Rattle.growth.specs.Growth.{VisitedIn, grownOf};
+ghost use Rattle.growth.specs.Fan.{FreshIn, MembersIn, Ready, Leads, opensOf, InFan, Fine, GrownIs};
+use cells::Cell;
 use cells::Found;
 use configuration::Action;
 use configuration::Op;
@@ -31,56 +32,28 @@ pub enum Grown {
 
 // Stores the words y, unless they are stored, at distance d from parent k.
 pub fn visit(
-    places: &mut [u64],
-    patterns: &mut [u64],
-    distances: &mut [u32],
-    parents: &mut [u32],
-    heads: &mut [u32],
-    nexts: &mut [u32],
+    cells: &mut [[u32; Cell::WORDS]],
     count: usize,
-    cells: usize,
+    size: usize,
     d: u32,
     k: usize,
     y: Words,
 ) -> Visited
-    requires { ⌜ Filled (entries (now places) (now patterns) (now distances) (now parents)) (now heads) (now nexts) count cells ⌝ }
+    requires { ⌜ FilledIn (now cells) count size ⌝ }
     requires { ⌜ k < count ⌝ }
-    ensures { λ r. ⌜ VisitedIs
-        (entries (now (places .entry)) (now (patterns .entry)) (now (distances .entry)) (now (parents .entry)))
-        (entries (now (places .exit)) (now (patterns .exit)) (now (distances .exit)) (now (parents .exit)))
-        (now (heads .exit)) (now (nexts .exit)) count cells d k y r ⌝ }
+    ensures { λ r. ⌜ VisitedIn (now (cells .entry)) (now (cells .exit)) count size d k y r ⌝ }
+    ensures { λ r. ⌜ FreshIn (now (cells .entry)) (now (cells .exit)) count (grownOf r) ⌝ }
+    ensures { λ r. ⌜ From entryFields (now (cells .entry)) (now (cells .exit)) ⌝ }
 {
-    let f = cells::find(
-        places,
-        patterns,
-        heads,
-        nexts,
-        count,
-        cells,
-        y.place,
-        y.pattern,
-    );
+    let f = cells::find(cells, count, size, y.place, y.pattern);
     match f {
         Found::At(i) => Visited::At(i, count),
         Found::Nothing => {
             let n = count + 1;
-            if cells < n {
+            if size < n {
                 return Visited::Full;
             }
-            cells::add(
-                places,
-                patterns,
-                distances,
-                parents,
-                heads,
-                nexts,
-                count,
-                cells,
-                y.place,
-                y.pattern,
-                d,
-                k as u32,
-            );
+            cells::add(cells, count, size, y.place, y.pattern, d, k as u32);
             Visited::At(count, n)
         }
     }
@@ -98,28 +71,22 @@ pub fn after_visit(s: Visited) -> Grown
 
 // Visits the fan over v whose first member is `first`.
 fn members(
-    places: &mut [u64],
-    patterns: &mut [u64],
-    distances: &mut [u32],
-    parents: &mut [u32],
-    heads: &mut [u32],
-    nexts: &mut [u32],
+    cells: &mut [[u32; Cell::WORDS]],
     count: usize,
-    cells: usize,
+    size: usize,
     d: u32,
     k: usize,
     w: u64,
     v: u8,
     first: Words,
 ) -> Grown
-    requires { ⌜ Filled (entries (now places) (now patterns) (now distances) (now parents)) (now heads) (now nexts) count cells ⌝ }
+    requires { ⌜ FilledIn (now cells) count size ⌝ }
     requires { ⌜ k < count ⌝ }
     requires { ⌜ Width w ⌝ }
     requires { ⌜ first .pattern ≡ assignOf w (first .pattern) v low ⌝ }
-    ensures { λ r. ⌜ MembersIs w v first
-        (entries (now (places .entry)) (now (patterns .entry)) (now (distances .entry)) (now (parents .entry)))
-        (entries (now (places .exit)) (now (patterns .exit)) (now (distances .exit)) (now (parents .exit)))
-        (now (heads .exit)) (now (nexts .exit)) count cells d k r ⌝ }
+    ensures { λ r. ⌜ MembersIn w v first (now (cells .entry)) (now (cells .exit)) count size d k r ⌝ }
+    ensures { λ r. ⌜ FreshIn (now (cells .entry)) (now (cells .exit)) count r ⌝ }
+    ensures { λ r. ⌜ From entryFields (now (cells .entry)) (now (cells .exit)) ⌝ }
 {
     let last = w + Words::LAST_TRIAL;
     let mut n = count;
@@ -130,19 +97,7 @@ fn members(
             place: first.place,
             pattern: q,
         };
-        let s = visit(
-            places,
-            patterns,
-            distances,
-            parents,
-            heads,
-            nexts,
-            n,
-            cells,
-            d,
-            k,
-            member,
-        );
+        let s = visit(cells, n, size, d, k, member);
         let Visited::At(_, m) = s else {
             return Grown::Full;
         };
@@ -179,68 +134,31 @@ fn opens(op: Op, x: Words) -> bool
 // Visits what a read that finds a record leads to from x, which is entry k: its fan, unless the fan is marked. The mark comes first: where a
 // member finds no cell the search is over.
 pub fn fan(
-    places: &mut [u64],
-    patterns: &mut [u64],
-    distances: &mut [u32],
-    parents: &mut [u32],
-    heads: &mut [u32],
-    nexts: &mut [u32],
-    fans: &mut [u8],
+    cells: &mut [[u32; Cell::WORDS]],
     count: usize,
-    cells: usize,
+    size: usize,
     d: u32,
     k: usize,
     op: Op,
     w: u64,
     x: Words,
 ) -> Grown
-    requires { ⌜ Ready w (rows (now places) (now patterns) (now distances) (now parents) (now heads) (now nexts) (now fans)) count cells ⌝ }
+    requires { ⌜ Ready w (rowsOf (now cells)) count size ⌝ }
     requires { ⌜ k < count ⌝ }
     requires { ⌜ Fine w op x ⌝ }
-    ensures { λ r. ⌜ GrownIs (Leads w op x) (InFan w op x) w
-        (rows (now (places .entry)) (now (patterns .entry)) (now (distances .entry)) (now (parents .entry)) (now (heads .entry))
-        (now (nexts .entry)) (now (fans .entry)))
-        (rows (now (places .exit)) (now (patterns .exit)) (now (distances .exit)) (now (parents .exit)) (now (heads .exit))
-        (now (nexts .exit)) (now (fans .exit)))
-        count cells d k r ⌝ }
+    ensures { λ r. ⌜ GrownIs (Leads w op x) (InFan w op x) w (rowsOf (now (cells .entry))) (rowsOf (now (cells .exit))) count size d k r ⌝ }
 {
     if !opens(op, x) {
         return Grown::To(count);
     }
     let first = configuration::take(op, w, x, Words::LOW);
-    let s = visit(
-        places,
-        patterns,
-        distances,
-        parents,
-        heads,
-        nexts,
-        count,
-        cells,
-        d,
-        k,
-        first,
-    );
+    let s = visit(cells, count, size, d, k, first);
     let Visited::At(i, n) = s else {
         return Grown::Full;
     };
-    if cells::marked(fans, i, op.variable as usize) {
+    if cells::marked(cells, i, op.variable as usize) {
         return Grown::To(n);
     }
-    cells::mark(fans, i, op.variable as usize);
-    members(
-        places,
-        patterns,
-        distances,
-        parents,
-        heads,
-        nexts,
-        n,
-        cells,
-        d,
-        k,
-        w,
-        op.variable,
-        first,
-    )
+    cells::mark(cells, i, op.variable as usize);
+    members(cells, n, size, d, k, w, op.variable, first)
 }

@@ -20,6 +20,7 @@ ghost use Rattle.interpreter.specs.Held.{Placed, RowFits, stops, outputs
 use flow::Flow;
 use flow::Instruction;
 use flow::Kind;
+use flow::Refusal;
 
 // A value for each variable, a number for each tape, a count for each instruction.
 pub type Variables = [i32; Flow::MAX_VARIABLES as usize];
@@ -28,16 +29,17 @@ pub type PerTape = [usize; Flow::MAX_TAPES as usize];
 
 pub type PerInstruction = [u32; Flow::MAX_INSTRUCTIONS];
 
-// How a run ends.
-pub enum End {
+// How a run ends, or why it was not made.
+pub enum RunEnd {
     Stopped,
     Spent,
     Full,
+    Refused(Refusal),
 }
 
 // What a run comes to: its end, the steps and the puts done, and how often each exit was taken, by instruction.
-pub struct Ran {
-    pub end: End,
+pub struct RunAnswer {
+    pub end: RunEnd,
     pub steps: u64,
     pub puts: usize,
     pub p: PerInstruction,
@@ -268,7 +270,7 @@ fn run_from(
     cells: usize,
     numbers: &mut [u8],
     values: &mut [i32],
-) -> Ran
+) -> RunAnswer
     requires { ⌜ Legal (flowOf flow) ⌝ }
     requires { ⌜ limit ≤ maxSteps ⌝ }
     requires { ⌜ Placed (now records) places ends ⌝ }
@@ -291,13 +293,13 @@ fn run_from(
         let x = flow.instructions[i];
         let kind = x.kind;
         if is_stop(kind) {
-            break End::Stopped;
+            break RunEnd::Stopped;
         }
         if steps == limit {
-            break End::Spent;
+            break RunEnd::Spent;
         }
         if is_full(kind, puts, cells) {
-            break End::Full;
+            break RunEnd::Full;
         }
         puts = put(x, &variables, puts, numbers, values);
         let first = step(x, records, &mut variables, &mut at, &ends);
@@ -305,7 +307,7 @@ fn run_from(
         next = target(x, first);
         steps += 1;
     };
-    Ran {
+    RunAnswer {
         end,
         steps,
         puts,
@@ -314,7 +316,7 @@ fn run_from(
     }
 }
 
-impl Ran {
+impl RunAnswer {
     // A larger step limit counts as this one.
     pub const MAX_STEPS: u64 = 1000000;
 }
@@ -328,7 +330,7 @@ pub fn run(
     lengths: PerTape,
     numbers: &mut [u8],
     values: &mut [i32],
-) -> Ran
+) -> RunAnswer
     requires { ⌜ Legal (flowOf flow) ⌝ }
     requires { ⌜ total lengths ≤ length (now records) ⌝ }
     ensures { λ r. ⌜ r ≡ ranOf (rowRun (flowOf flow) limit (now (records .entry)) lengths (now (numbers .entry)) (now (values .entry))) ⌝ }
@@ -339,7 +341,7 @@ pub fn run(
         ≡ written (valuesPut (rowRun (flowOf flow) limit (now (records .entry)) lengths (now (numbers .entry)) (now (values .entry))))
         (now (values .entry)) ⌝ }
 {
-    let most = smaller(limit, Ran::MAX_STEPS);
+    let most = smaller(limit, RunAnswer::MAX_STEPS);
     let cells = smaller(numbers.len() as u64, values.len() as u64) as usize;
     let a = lengths[0];
     let b = a + lengths[1];

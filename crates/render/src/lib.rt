@@ -9,6 +9,7 @@ ghost use Rattle.flow.specs.Limits.{maxInstructions};
 ghost use Rattle.interpreter.specs.Run.{written};
 ghost use Rattle.render.specs.Report.{distanceField, exitLine, exitLines, linesFrom, wordLine, reportText, Printed};
 ghost use Rattle.render.specs.Inner.{Put};
+use cells::Cell;
 use flow::Flow;
 use tape_maker::ReportAnswer;
 use tape_maker::ReportEnd;
@@ -146,22 +147,7 @@ pub fn report_of(text: &[u8], out: &mut Row) -> usize
     ensures { λ n. ⌜ Printed (now (text .entry)) (now (out .entry)) (now (out .exit)) n ⌝ }
     ensures { λ n. ⌜ n ≤ length (now (out .exit)) ⌝ }
 {
-    let mut places = [0u64; 4096];
-    let mut patterns = [0u64; 4096];
-    let mut distances = [0u32; 4096];
-    let mut parents = [0u32; 4096];
-    let mut heads = [0u32; 4096];
-    let mut nexts = [0u32; 4096];
-    let mut fans = [0u8; 4096];
-    let r = tape_maker::report(
-        text,
-        &mut places,
-        &mut patterns,
-        &mut distances,
-        &mut parents,
-        &mut heads,
-        &mut nexts,
-        &mut fans,
-    );
+    let mut cells = [[0u32; Cell::WORDS]; 4096];
+    let r = tape_maker::report(text, &mut cells);
     report_text(r, out)
 }

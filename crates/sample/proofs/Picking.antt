@@ -1,5 +1,5 @@
 -- What a finished table gives for an exit, by what is found: nothing takes it, or the nearest entry that does gives the distance and the way.
-use mathlib.Core.Path.{_≡_, refl, ap, _∙_, subst, subst⁻¹}
+use mathlib.Core.Path.{_≡_, refl, sym, ap, _∙_, subst, subst⁻¹}
 use mathlib.Core.Bool.{Bool, true}
 use mathlib.Core.List.{List}
 use Prim.Native.Nat.{ℕ, zero, suc, _+_, _-_, _≤_, _<_}
@@ -14,12 +14,15 @@ use Rattle.model.specs.Machine.{exitIf}
 use Rattle.model.specs.Distance.{Distance}
 use Rattle.model.proofs.Integers.{zarith}
 use Rattle.flow.specs.Limits.{maxInstructions}
+use Rattle.flow.specs.declared.Refusal.the-variants.{ShortRow}
 use Rattle.configuration.specs.Op.{opOf}
 use Rattle.configuration.specs.Pattern.{Width}
 use Rattle.configuration.specs.declared.Op.{Op}
 use Rattle.configuration.proofs.Steps.{Fit}
 use Rattle.configuration.proofs.Fitting.{fit-legal, legal-limited}
-use Rattle.cells.specs.Entries.{Entries, distanceOf}
+use Rattle.cells.specs.Columns.{placeField, patternField, distanceField, parentField, bucketField, wayField, column, rowsOf, Only}
+use Rattle.cells.specs.Entries.{Entries, entries, entriesOf, distanceOf}
+use Rattle.cells.proofs.Fields.{length-column, word-column-same}
 use Rattle.cells.specs.Way.{Traced}
 use Rattle.cells.specs.declared.Found.{Found}
 use Rattle.cells.specs.declared.Found.the-variants.{At, Nothing}
@@ -27,11 +30,36 @@ use Rattle.table.specs.Table.{Complete}
 use Rattle.table.specs.Passes.{blank, Prepared}
 use Rattle.table.proofs.Says.{found-distance, found-stored, found-nothing, past-plain}
 use Rattle.sample.specs.Sampling.{Course, course, Leads, endOf, Ends, WrittenBy, Tabled, NearestIs}
-use Rattle.sample.specs.Picking.{Written, PickedIs}
-use Rattle.sample.specs.declared.Outcome.{Outcome}
-use Rattle.sample.specs.declared.Outcome.the-variants.{Taken, Never, Short}
-use Rattle.sample.specs.declared.Picked.{Picked}
+use Rattle.sample.specs.Picking.{bare, Written, PickedIs}
+use Rattle.sample.specs.declared.SampleEnd.{SampleEnd}
+use Rattle.sample.specs.declared.SampleEnd.the-variants.{Taken, Never, Refused}
+use Rattle.sample.specs.declared.SampleAnswer.{SampleAnswer}
 use Rattle.sample.proofs.Given.{traced-leads, found-ends}
+
+-- ---- a way written into the cells leaves the entries
+module _ (c c₁ : List (List ℕ)) (only : Only wayField c c₁) where
+  entries-kept : entriesOf (rowsOf c) ≡ entriesOf (rowsOf c₁)
+  entries-kept =
+      λ i. entries (word-column-same placeField c₁ c (sym (only placeField (omega arith))) (sym (only (placeField + 1) (omega arith))) i)
+      (word-column-same patternField c₁ c (sym (only patternField (omega arith))) (sym (only (patternField + 1) (omega arith))) i) (sym (only distanceField (omega arith)) i) (sym (only parentField (omega arith)) i) (sym (only bucketField (omega arith)) i)
+
+  pub tabled-after : {flow : Flow} {n room : ℕ} {ops : List Op} {w : ℕ} {lo hi : ℤ} {i : ℕ} → Tabled flow (entriesOf (rowsOf c)) n room ops w lo hi i
+      → Tabled flow (entriesOf (rowsOf c₁)) n room ops w lo hi i
+  tabled-after {flow} {n} {room} {ops} {w} {lo} {hi} {i} = subst (λ (e : Entries). Tabled flow e n room ops w lo hi i) entries-kept
+
+  pub nearest-after : (w n : ℕ) (ops : List Op) (i : ℕ) (exit : Bool) (k : ℕ) → NearestIs w (entriesOf (rowsOf c)) n ops i (exitIf exit) (At k)
+      → NearestIs w (entriesOf (rowsOf c₁)) n ops i (exitIf exit) (At k)
+  nearest-after w n ops i exit k = subst (λ (e : Entries). NearestIs w e n ops i (exitIf exit) (At k)) entries-kept
+
+  pub traced-after : (path : List ℕ) (n k : ℕ) → Traced (column distanceField c) (column parentField c) path n k (getD (column distanceField c) k 0)
+      → Traced (column distanceField c₁) (column parentField c₁) path n k (getD (column distanceField c₁) k 0)
+  traced-after path n k = subst (λ (e : Entries). Traced (e .distances) (e .parents) path n k (distanceOf e k)) entries-kept
+
+  pub far-after : (k : ℕ) {d : ℕ} → d ≡ getD (column distanceField c) k 0 → d ≡ getD (column distanceField c₁) k 0
+  far-after k e = e ∙ ap (λ (t : List ℕ). getD t k 0) (sym (only distanceField (omega arith)))
+
+  pub way-long : length c₁ ≡ length c → length (column wayField c₁) ≡ length c
+  way-long e = length-column wayField c₁ ∙ e
 
 -- ---- an instruction with two exits is one of the flow's
 pub exits-first : (flow : Flow) (i : ℕ) → hasExits (instruction flow i) ≡ true → 1 ≤ i
@@ -98,12 +126,12 @@ module _ {flow : Flow} {e : Entries} {n room : ℕ} {ops : List Op} {w : ℕ} {l
       prepared .each (i - 1) (omega (arith, tabled-first, tabled-last)) ∙ ap (λ (j : ℕ). opOf lo (instruction flow j)) n
 
   module _ (exit : Bool) where
-    pub nothing-picked : (row : List ℤ) (r : Picked) → NearestIs w e n ops i (exitIf exit) Nothing → r .outcome ≡ Never
-        → PickedIs flow i (exitIf exit) row row r (r .outcome)
+    pub nothing-picked : (tapes : ℕ) (row : List ℤ) (r : SampleAnswer) → NearestIs w e n ops i (exitIf exit) Nothing → r ≡ bare Never
+        → PickedIs flow tapes i (exitIf exit) row row r (r .end)
     unfolding PickedIs
-    nothing-picked row r h q =
-        subst⁻¹ (λ (x : Outcome). PickedIs flow i (exitIf exit) row row r x) q
-        (found-nothing fit complete i (exitIf exit) (getD ops (i - 1) blank) op-is h, refl)
+    nothing-picked tapes row r h q =
+        subst⁻¹ (λ (x : SampleEnd). PickedIs flow tapes i (exitIf exit) row row r x) (ap (λ (a : SampleAnswer). a .end) q)
+        (q, found-nothing fit complete i (exitIf exit) (getD ops (i - 1) blank) op-is h, refl)
 
     module _ (k : ℕ) (h : NearestIs w e n ops i (exitIf exit) (At k)) where
       pub nearest-below : k < n
@@ -114,15 +142,15 @@ module _ {flow : Flow} {e : Entries} {n room : ℕ} {ops : List Op} {w : ℕ} {l
 
       -- its distance, as a number that the code holds
       module _ {last : ℕ} (is-last : last ≡ distanceOf e k) where
-        pub short-picked : (row : List ℤ) (r : Picked) → length row ≤ last → r .outcome ≡ Short
-            → PickedIs flow i (exitIf exit) row row r (r .outcome)
+        pub short-picked : (tapes : ℕ) (row : List ℤ) (r : SampleAnswer) → length row ≤ last → r ≡ bare (Refused ShortRow)
+            → PickedIs flow tapes i (exitIf exit) row row r (r .end)
         unfolding PickedIs
-        short-picked row r l q =
+        short-picked tapes row r l q =
             let far : Distance flow i (exitIf exit) (suc last)
             = subst⁻¹ (λ (m : ℕ). Distance flow i (exitIf exit) (suc m)) is-last
             (found-distance fit complete i (exitIf exit) (getD ops (i - 1) blank) op-is k h) in
-            subst⁻¹ (λ (x : Outcome). PickedIs flow i (exitIf exit) row row r x) q
-            (record { needed = suc last; distance = far; short = omega arith }, refl)
+            subst⁻¹ (λ (x : SampleEnd). PickedIs flow tapes i (exitIf exit) row row r x) (ap (λ (a : SampleAnswer). a .end) q)
+            (refl, q, record { needed = suc last; distance = far; short = omega arith }, refl)
 
         module _ {path : List ℕ} (long : length path ≡ room) (traced : Traced (e .distances) (e .parents) path n k (distanceOf e k)) where
           way : Traced (e .distances) (e .parents) path n k last
@@ -140,12 +168,12 @@ module _ {flow : Flow} {e : Entries} {n room : ℕ} {ops : List Op} {w : ℕ} {l
           pub way-ends-there : Ends way-course flow exit
           way-ends-there = way-end .0
 
-          pub taken-picked : {row row′ : List ℤ} (r : Picked) → WrittenBy way-course flow exit row row′ (r .lengths) → r .distance ≡ last + 1
-              → r .outcome ≡ Taken → PickedIs flow i (exitIf exit) row row′ r (r .outcome)
+          pub taken-picked : {tapes : ℕ} {row row′ : List ℤ} (r : SampleAnswer) → WrittenBy way-course flow exit row row′ (r .lengths) → r .distance ≡ last + 1
+              → r .tapes ≡ tapes → r .end ≡ Taken → PickedIs flow tapes i (exitIf exit) row row′ r (r .end)
           unfolding PickedIs
-          taken-picked {row} {row′} r x d q =
+          taken-picked {tapes} {row} {row′} r x d same q =
               let far : suc last ≡ r .distance = omega arith in
               let at : Written lo hi flow i (exitIf exit) (r .distance) row row′ (r .lengths)
               = subst (λ (m : ℕ). Written lo hi flow i (exitIf exit) m row row′ (r .lengths)) far
               (subst (λ (j : ℕ). Written lo hi flow j (exitIf exit) (suc last) row row′ (r .lengths)) (way-end .1) x) in
-              subst⁻¹ (λ (x : Outcome). PickedIs flow i (exitIf exit) row row′ r x) q (rw (t .low, t .high) at at)
+              subst⁻¹ (λ (x : SampleEnd). PickedIs flow tapes i (exitIf exit) row row′ r x) q (same, rw (t .low, t .high) at at)

@@ -22,6 +22,7 @@ use Rattle.configuration.specs.Graph.{Edge, opAt}
 use Rattle.configuration.specs.declared.Words.{Words}
 use Rattle.configuration.specs.declared.Op.{Op}
 use Rattle.configuration.proofs.Steps.{Fit, Proper}
+use Rattle.cells.specs.Columns.{placeField, patternField, wayField, column, wordColumn}
 use Rattle.cells.specs.Entries.{Entries}
 use Rattle.cells.specs.Way.{Parents}
 use Rattle.cells.specs.declared.Found.{Found}
@@ -47,6 +48,10 @@ pub record Course : Type 0 where
 abbrev pub course : (places patterns path : List ℕ) (steps : ℕ) (ops : List Op) (w : ℕ) (lo hi : ℤ) → Course
 course places patterns path steps ops w lo hi =
     record { places = places; patterns = patterns; path = path; steps = steps; ops = ops; w = w; lo = lo; hi = hi }
+
+-- the way that the cells hold
+abbrev pub courseIn : (c : List (List ℕ)) (steps : ℕ) (ops : List Op) (w : ℕ) (lo hi : ℤ) → Course
+courseIn c = course (wordColumn placeField c) (wordColumn patternField c) (column wayField c)
 
 -- the words at place t of the way, the instruction of step t, and how many records of each tape the first t steps take
 abbrev pub wordsAlong : Course → ℕ → Words

@@ -12,12 +12,14 @@ ghost use Rattle.configuration.specs.Pattern.{Width, laneOf, valueOf};
 ghost use Rattle.configuration.proofs.Span.{real};
 ghost use Rattle.tapes.specs.Moves.{Movable};
 ghost use Rattle.tapes.specs.Reading.{Ready};
-ghost use Rattle.cells.specs.Entries.{entries};
+ghost use Rattle.cells.specs.Columns.{placeField, patternField, wayField, column, wordColumn, rowsOf};
+ghost use Rattle.cells.specs.Entries.{entriesOf};
 ghost use Rattle.table.specs.Passes.{Stands};
 ghost use Rattle.table.specs.Way.{placeOn, Passable, isRead, countedOf, readsOn};
 ghost use Rattle.sample.specs.Steps.{wishOf, takesRecord, termIn, quietWalk, walkTo, rowTo, lastRow, Fine, Low};
-ghost use Rattle.sample.specs.Sampling.{course, Leads, Ends, Roomy, Following, WrittenBy, Tabled, NearestIs};
-ghost use Rattle.sample.specs.Picking.{PickedIs};
+ghost use Rattle.sample.specs.Sampling.{courseIn, Leads, Ends, Roomy, Following, WrittenBy, Tabled, NearestIs};
+ghost use Rattle.sample.specs.Picking.{bare, PickedIs};
+use cells::Cell;
 use cells::Found;
 use configuration::Action;
 use configuration::Op;
@@ -25,21 +27,23 @@ use configuration::Words;
 use configuration::pattern;
 use configuration::place;
 use flow::Flow;
+use flow::Refusal;
 use tapes::Walk;
 
 const TAPES: usize = Flow::MAX_TAPES as usize;
 
-// Whether an exit is taken by a sample, by no tapes, or only by tapes too long for the row.
-pub enum Outcome {
+// Whether a sample was taken, or no tapes take the exit.
+pub enum SampleEnd {
     Taken,
     Never,
-    Short,
+    Refused(Refusal),
 }
 
-// What is picked for an exit: of a sample its distance, and the lengths of the tapes in the row.
-pub struct Picked {
-    pub outcome: Outcome,
+// What a wish for a sample comes to: the exit's distance, the number of tapes, and their lengths in the record row.
+pub struct SampleAnswer {
+    pub end: SampleEnd,
     pub distance: usize,
+    pub tapes: usize,
     pub lengths: [usize; TAPES],
 }
 
@@ -171,33 +175,27 @@ fn index(place: u64) -> usize
 }
 
 // The words at place t of a way.
-fn words_on(places: &[u64], patterns: &[u64], path: &[u32], t: usize) -> Words
-    requires { ⌜ t < length (now path) ⌝ }
-    requires { ⌜ getD (now path) t 0 < length (now places) ⌝ }
-    requires { ⌜ getD (now path) t 0 < length (now patterns) ⌝ }
-    ensures { λ r. ⌜ r ≡ words (placeOn (now (places .entry)) (now (path .entry)) t)
-        (getD (now (patterns .entry)) (getD (now (path .entry)) t 0) 0) ⌝ }
+fn words_on(cells: &[[u32; Cell::WORDS]], t: usize) -> Words
+    requires { ⌜ (t < length (now cells)) × (getD (column wayField (now cells)) t 0 < length (now cells)) ⌝ }
+    ensures { λ r. ⌜ r ≡ words (placeOn (wordColumn placeField (now (cells .entry))) (column wayField (now (cells .entry))) t)
+        (getD (wordColumn patternField (now (cells .entry))) (getD (column wayField (now (cells .entry))) t 0) 0) ⌝ }
 {
-    let k = table::wide(path[t]);
-    Words {
-        place: places[k],
-        pattern: patterns[k],
-    }
+    let k = table::wide(cells::get(cells, t, Cell::WAY));
+    table::words_at(cells, k)
 }
 
 // How many records of each tape the steps of a way take, with the step by which op takes the exit, p if `exit`, at its end.
 fn sizes_of(
-    places: &[u64],
-    path: &[u32],
+    cells: &[[u32; Cell::WORDS]],
     steps: usize,
     ops: [Op; Flow::MAX_INSTRUCTIONS],
     op: Op,
     exit: bool,
 ) -> [usize; TAPES]
-    requires { ⌜ Passable (now places) (now path) steps ⌝ }
-    ensures { λ r. ⌜ r ≡ countedOf (readsOn ops (now (places .entry)) (now (path .entry)) steps) op exit ⌝ }
+    requires { ⌜ Passable (wordColumn placeField (now cells)) (column wayField (now cells)) steps ⌝ }
+    ensures { λ r. ⌜ r ≡ countedOf (readsOn ops (wordColumn placeField (now (cells .entry))) (column wayField (now (cells .entry))) steps) op exit ⌝ }
 {
-    let counts = table::reads(path, places, ops, steps);
+    let counts = table::reads(cells, ops, steps);
     let all = table::counted(counts, op, exit);
     let a = table::wide(all[0]);
     let b = table::wide(all[1]);
@@ -207,9 +205,7 @@ fn sizes_of(
 
 // The steps of a way, from its start to its end.
 fn write_steps(
-    places: &[u64],
-    patterns: &[u64],
-    path: &[u32],
+    cells: &[[u32; Cell::WORDS]],
     steps: usize,
     ops: [Op; Flow::MAX_INSTRUCTIONS],
     w: u64,
@@ -218,21 +214,21 @@ fn write_steps(
     sizes: [usize; TAPES],
     row: &mut [i32],
 ) -> Walk
-    requires { ⌜ ((flow : FlowOf) × Leads (course (now places) (now patterns) (now path) steps ops w lo hi) flow) ⌝ }
-    requires { ⌜ Roomy (course (now places) (now patterns) (now path) steps ops w lo hi) sizes (length (now row)) ⌝ }
+    requires { ⌜ ((flow : FlowOf) × Leads (courseIn (now cells) steps ops w lo hi) flow) ⌝ }
+    requires { ⌜ Roomy (courseIn (now cells) steps ops w lo hi) sizes (length (now row)) ⌝ }
     ensures { λ r. ⌜ ((flow : FlowOf)
-        → Leads (course (now (places .entry)) (now (patterns .entry)) (now (path .entry)) steps ops w lo hi) flow
-        → Following (course (now (places .entry)) (now (patterns .entry)) (now (path .entry)) steps ops w lo hi) flow sizes
+        → Leads (courseIn (now (cells .entry)) steps ops w lo hi) flow
+        → Following (courseIn (now (cells .entry)) steps ops w lo hi) flow sizes
         (now (row .entry)) steps r (now (row .exit))) ⌝ }
 {
     let mut walk = tapes::first_walk(sizes);
     let mut t = 0;
     while t < steps {
-        let here = words_on(places, patterns, path, t);
+        let here = words_on(cells, t);
         let i = index(here.place);
         let op = ops[i];
         t += 1;
-        let next = words_on(places, patterns, path, t);
+        let next = words_on(cells, t);
         walk = step(row, walk, op, next, w, lo, hi);
     }
     walk
@@ -240,9 +236,7 @@ fn write_steps(
 
 // A sample for the exit, p if `exit`, of the instruction at the end of a way: its records in the row, and the lengths of its tapes.
 fn write_sample(
-    places: &[u64],
-    patterns: &[u64],
-    path: &[u32],
+    cells: &[[u32; Cell::WORDS]],
     steps: usize,
     ops: [Op; Flow::MAX_INSTRUCTIONS],
     w: u64,
@@ -251,116 +245,98 @@ fn write_sample(
     exit: bool,
     row: &mut [i32],
 ) -> [usize; TAPES]
-    requires { ⌜ ((flow : FlowOf) × Leads (course (now places) (now patterns) (now path) steps ops w lo hi) flow
-        × Ends (course (now places) (now patterns) (now path) steps ops w lo hi) flow exit) ⌝ }
+    requires { ⌜ ((flow : FlowOf) × Leads (courseIn (now cells) steps ops w lo hi) flow
+        × Ends (courseIn (now cells) steps ops w lo hi) flow exit) ⌝ }
     requires { ⌜ suc steps ≤ length (now row) ⌝ }
     ensures { λ r. ⌜ ((flow : FlowOf)
-        → Leads (course (now (places .entry)) (now (patterns .entry)) (now (path .entry)) steps ops w lo hi) flow
-        → Ends (course (now (places .entry)) (now (patterns .entry)) (now (path .entry)) steps ops w lo hi) flow exit
-        → WrittenBy (course (now (places .entry)) (now (patterns .entry)) (now (path .entry)) steps ops w lo hi) flow exit
+        → Leads (courseIn (now (cells .entry)) steps ops w lo hi) flow
+        → Ends (courseIn (now (cells .entry)) steps ops w lo hi) flow exit
+        → WrittenBy (courseIn (now (cells .entry)) steps ops w lo hi) flow exit
         (now (row .entry)) (now (row .exit)) r) ⌝ }
 {
-    let i = index(table::place_on(path, places, steps));
+    let i = index(table::place_on(cells, steps));
     let op = ops[i];
-    let sizes = sizes_of(places, path, steps, ops, op, exit);
-    let walk = write_steps(places, patterns, path, steps, ops, w, lo, hi, sizes, row);
+    let sizes = sizes_of(cells, steps, ops, op, exit);
+    let walk = write_steps(cells, steps, ops, w, lo, hi, sizes, row);
     last_read(row, walk, op, exit, lo, hi);
     sizes
 }
 
-// Nothing is picked.
-fn without(outcome: Outcome) -> Picked
-    ensures { λ r. ⌜ r .outcome ≡ outcome ⌝ }
+// The answer without a sample.
+pub fn without(end: SampleEnd) -> SampleAnswer
+    ensures { λ r. ⌜ r ≡ bare end ⌝ }
 {
-    Picked {
-        outcome,
+    SampleAnswer {
+        end,
         distance: 0,
+        tapes: 0,
         lengths: [0; TAPES],
     }
 }
 
-// What is picked for the exit, p if `exit`, that entry k is the nearest to take: the way to the entry is written into path, and the records
-// that are read on it into row.
+// The sample for the exit, p if `exit`, that entry k is the nearest to take: the way to the entry is written into the cells, and the records
+// that are read on it into the row.
 fn sample_at(
-    places: &[u64],
-    patterns: &[u64],
-    distances: &[u32],
-    parents: &[u32],
-    path: &mut [u32],
+    cells: &mut [[u32; Cell::WORDS]],
     n: usize,
     ops: [Op; Flow::MAX_INSTRUCTIONS],
     w: u64,
     lo: i32,
     hi: i32,
+    tapes: usize,
     k: usize,
     exit: bool,
     row: &mut [i32],
-) -> Picked
+) -> SampleAnswer
     requires { ⌜ ((flow : FlowOf) × (i : ℕ)
-        × Tabled flow (entries (now places) (now patterns) (now distances) (now parents)) n (length (now path)) ops w lo hi i
-        × NearestIs w (entries (now places) (now patterns) (now distances) (now parents)) n ops i (exitIf exit) (Found.At k)) ⌝ }
+        × Tabled flow (entriesOf (rowsOf (now cells))) n (length (now cells)) ops w lo hi i
+        × NearestIs w (entriesOf (rowsOf (now cells))) n ops i (exitIf exit) (Found.At k)) ⌝ }
     ensures { λ r. ⌜ ((flow : FlowOf) (i : ℕ)
-        → Tabled flow (entries (now (places .entry)) (now (patterns .entry)) (now (distances .entry)) (now (parents .entry))) n
-        (length (now (path .entry))) ops w lo hi i
-        → NearestIs w (entries (now (places .entry)) (now (patterns .entry)) (now (distances .entry)) (now (parents .entry))) n ops i
+        → Tabled flow (entriesOf (rowsOf (now (cells .entry)))) n
+        (length (now (cells .entry))) ops w lo hi i
+        → NearestIs w (entriesOf (rowsOf (now (cells .entry)))) n ops i
         (exitIf exit) (Found.At k)
-        → PickedIs flow i (exitIf exit) (now (row .entry)) (now (row .exit)) r (r .outcome)) ⌝ }
+        → PickedIs flow tapes i (exitIf exit) (now (row .entry)) (now (row .exit)) r (r .end)) ⌝ }
 {
-    let d = table::wide(distances[k]);
+    let d = table::wide(cells::get(cells, k, Cell::DISTANCE));
     if row.len() <= d {
-        return without(Outcome::Short);
+        return without(SampleEnd::Refused(Refusal::ShortRow));
     }
-    cells::trace(distances, parents, path, n, k);
-    let lengths = write_sample(places, patterns, path, d, ops, w, lo, hi, exit, row);
-    Picked {
-        outcome: Outcome::Taken,
+    cells::trace(cells, n, k);
+    let lengths = write_sample(cells, d, ops, w, lo, hi, exit, row);
+    SampleAnswer {
+        end: SampleEnd::Taken,
         distance: d + 1,
+        tapes,
         lengths,
     }
 }
 
-// What is picked for an exit of an instruction, p if `exit`, from a finished table of n entries; path is overwritten.
+// The sample for an exit of an instruction, p if `exit`, of a flow with so many tapes, from a finished table of n entries.
 pub fn sample_for(
-    places: &[u64],
-    patterns: &[u64],
-    distances: &[u32],
-    parents: &[u32],
-    path: &mut [u32],
+    cells: &mut [[u32; Cell::WORDS]],
     n: usize,
     ops: [Op; Flow::MAX_INSTRUCTIONS],
     w: u64,
     lo: i32,
     hi: i32,
+    tapes: usize,
     instruction: usize,
     exit: bool,
     row: &mut [i32],
-) -> Picked
+) -> SampleAnswer
     requires { ⌜ ((flow : FlowOf)
-        × Tabled flow (entries (now places) (now patterns) (now distances) (now parents)) n (length (now path)) ops w lo hi instruction) ⌝ }
+        × Tabled flow (entriesOf (rowsOf (now cells))) n (length (now cells)) ops w lo hi instruction) ⌝ }
     ensures { λ r. ⌜ ((flow : FlowOf)
-        → Tabled flow (entries (now (places .entry)) (now (patterns .entry)) (now (distances .entry)) (now (parents .entry))) n
-        (length (now (path .entry))) ops w lo hi instruction
-        → PickedIs flow instruction (exitIf exit) (now (row .entry)) (now (row .exit)) r (r .outcome)) ⌝ }
+        → Tabled flow (entriesOf (rowsOf (now (cells .entry)))) n
+        (length (now (cells .entry))) ops w lo hi instruction
+        → PickedIs flow tapes instruction (exitIf exit) (now (row .entry)) (now (row .exit)) r (r .end)) ⌝ }
 {
     let at = instruction - 1;
     let op = ops[at];
-    let found = table::nearest(places, patterns, n, op, w, instruction, exit);
+    let found = table::nearest(cells, n, op, w, instruction, exit);
     match found {
-        Found::Nothing => without(Outcome::Never),
-        Found::At(k) => sample_at(
-            places,
-            patterns,
-            distances,
-            parents,
-            path,
-            n,
-            ops,
-            w,
-            lo,
-            hi,
-            k,
-            exit,
-            row,
-        ),
+        Found::Nothing => without(SampleEnd::Never),
+        Found::At(k) => sample_at(cells, n, ops, w, lo, hi, tapes, k, exit, row),
     }
 }

@@ -5,6 +5,7 @@ ghost use Prim.Native.Nat.{_<_};
 use flow::Flow;
 use flow::Instruction;
 use flow::Kind;
+use tape_maker::Cell;
 use tape_maker::RunAnswer;
 use tape_maker::SampleAnswer;
 use tape_maker::SampleEnd;
@@ -25,26 +26,8 @@ fn blank_from(row: &[i32], from: usize) -> bool {
 }
 
 fn ask(text: &[u8], i: usize, p: bool, row: &mut [i32]) -> SampleAnswer {
-    let mut places = [0u64; 4096];
-    let mut patterns = [0u64; 4096];
-    let mut distances = [0u32; 4096];
-    let mut parents = [0u32; 4096];
-    let mut heads = [0u32; 4096];
-    let mut nexts = [0u32; 4096];
-    let mut fans = [0u8; 4096];
-    tape_maker::sample(
-        text,
-        i,
-        p,
-        &mut places,
-        &mut patterns,
-        &mut distances,
-        &mut parents,
-        &mut heads,
-        &mut nexts,
-        &mut fans,
-        row,
-    )
+    let mut cells = [[0u32; Cell::WORDS]; 4096];
+    tape_maker::sample(text, i, p, &mut cells, row)
 }
 
 fn run(text: &[u8], limit: u64, records: &[i32], lengths: &[usize]) -> RunAnswer {
@@ -130,14 +113,27 @@ fn total(lengths: &[usize], most: usize) -> usize {
 // Whether the row holds a sample with these lengths, and is blank beyond it.
 fn holds(text: &[u8], f: Flow, i: usize, p: bool, d: u64, row: &[i32], lengths: &[usize]) -> bool {
     let n = total(lengths, row.len());
-    let t = f.tapes as usize;
     if row.len() < n {
         return false;
     }
+    blank_from(row, n) & is_sample(text, f, i, p, d, &row[0..n], lengths)
+}
+
+// The same for as many lengths as there are tapes.
+fn holds_tapes(
+    text: &[u8],
+    f: Flow,
+    i: usize,
+    p: bool,
+    d: u64,
+    row: &[i32],
+    lengths: &[usize],
+    t: usize,
+) -> bool {
     if lengths.len() < t {
         return false;
     }
-    blank_from(row, n) & is_sample(text, f, i, p, d, &row[0..n], &lengths[0..t])
+    holds(text, f, i, p, d, row, &lengths[0..t])
 }
 
 fn print_end(p: bool, yes: &[u8], no: &[u8]) {
@@ -162,7 +158,7 @@ fn print_sample(text: &[u8], f: Flow, i: usize, p: bool)
             let lengths = a.lengths;
             show::exit(i + 1, p);
             show::field(d as u64);
-            let taken = holds(text, f, i, p, d as u64, &row, &lengths);
+            let taken = holds_tapes(text, f, i, p, d as u64, &row, &lengths, a.tapes);
             print_end(taken, b",taken", b",not taken");
         }
         SampleEnd::Never => {

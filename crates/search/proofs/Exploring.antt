@@ -1,6 +1,7 @@
 -- The search of a flow. An entry's words are reached, so they are proper, and its prepared instruction is that of the flow; what its expansion
 -- adds is led to by its edges, so the invariant of a breadth-first search is kept, and where no cell is left more is reached than fits.
-use mathlib.Core.Path.{_≡_, refl, sym, ap, _∙_, subst}
+use mathlib.Core.Path.{_≡_, refl, sym, ap, _∙_, subst, subst₂}
+use mathlib.Core.Bool.{false}
 use mathlib.Core.List.{List}
 use mathlib.Core.Logic.{_⊎_, inl, inr}
 use mathlib.Core.Option.{Option}
@@ -27,19 +28,22 @@ use Rattle.configuration.specs.declared.Action.the-variants.{Read}
 use Rattle.configuration.proofs.Steps.{Fit, Proper}
 use Rattle.configuration.proofs.Edges.{read-lane, edge-proper}
 use Rattle.configuration.proofs.Reaches.{start-proper}
-use Rattle.cells.specs.Cells.{Rows, mostCells, cellsOf}
+use Rattle.cells.specs.Cells.{mostCells, cellsOf}
+use Rattle.cells.specs.Columns.{marksField, column, Rows}
 use Rattle.cells.specs.Index.{node}
-use Rattle.cells.specs.Entries.{distanceOf, Begun}
-use Rattle.cells.proofs.Room.{roomy}
+use Rattle.cells.specs.Entries.{entriesOf, distanceOf, Begun}
+use Rattle.cells.specs.Marks.{isMarked}
+use Rattle.cells.proofs.Fields.{length-column}
 use Rattle.table.specs.Table.{wordGraph, wordsAt, tableOf}
-use Rattle.growth.specs.Growth.{entriesOf, Grows, none, more, Outgrown, Kept}
-use Rattle.growth.specs.Fan.{Marked, Leads, Fine}
+use Rattle.growth.specs.Growth.{Grows, none, more, Outgrown, Kept}
+use Rattle.growth.specs.Fan.{Marked, Leads, Fine, GrownIs}
 use Rattle.table.specs.Passes.{Prepared}
-use Rattle.search.specs.Search.{Exploring, Finished, SearchedIs}
+use Rattle.search.specs.Search.{ExpandedIs, Exploring, Finished, SearchedIs}
 use Rattle.search.specs.declared.Searched.{Searched}
+use Rattle.growth.specs.declared.Grown.{Grown}
 use Rattle.growth.proofs.Growing.{grows-extends}
 use Rattle.growth.proofs.Visiting.{node-words}
-use Rattle.growth.proofs.Fanning.{true-false}
+use Rattle.growth.proofs.Marks.{true-false}
 
 -- ---- the instruction of a place, as the walk picks it
 pub either : {A B C : Type 0} → (A → C) → (B → C) → A ⊎ B → C
@@ -63,6 +67,12 @@ module _ {lo : ℤ} {flow : Flow} {ops : List Op} (p : Prepared lo flow ops) whe
       go : Dec (atOf place ≡ 0) → (atOf place ≡ 0) ⊎ (64 < atOf place)
       go (yes z) = inl z
       go (no z) = inr (omega arith)
+
+-- ---- by the words and the distance that were read
+pub expanded-by : (w : ℕ) (op : Op) (r r′ : Rows) (count cells k : ℕ) (g : Grown) {x : Words} {d : ℕ} → x ≡ wordsAt (entriesOf r) k
+    → d ≡ distanceOf (entriesOf r) k + 1 → GrownIs (Leads w op x) (Leads w op x) w r r′ count cells d k g → ExpandedIs w op r r′ count cells k g
+expanded-by w op r r′ count cells k g same far =
+    subst₂ (λ (x : Words) (d : ℕ). GrownIs (Leads w op x) (Leads w op x) w r r′ count cells d k g) same far
 
 -- ---- a growth along the edges of entry k
 module _ (lo : ℤ) (w : ℕ) (flow : Flow) {S : Words → Type 0} {d k : ℕ} {t : Table Words} (s : Searching (wordGraph lo w flow) t k)
@@ -173,20 +183,22 @@ pub begun-exploring : {lo : ℤ} {w : ℕ} {flow : Flow} (r : Rows) {cells : ℕ
 unfolding wordGraph tableOf
 begun-exploring {lo} {w} {flow} r s is b room =
     record {
-      ready = record { filled = b .filled; room = room; marked = λ i v m. absurd (true-false (sym m ∙ b .unmarked i v)) };
+      ready = record { filled = b .filled; room = room; marked = λ i v l m. absurd (true-false (sym m ∙ first i v (omega arith))) };
       searching = start (wordGraph lo w flow) (tableOf (entriesOf r) 1) refl (node-words (b .node) ∙ is) (b .distance) (b .parent);
     }
+  where
+    first : (i v : ℕ) → i ≡ 0 → isMarked (r .fans) i v ≡ false
+    first i v e = ap (λ (j : ℕ). isMarked (r .fans) j v) e ∙ b .unmarked v
 
 -- without a cell the start does not fit
 pub none-fits : (lo : ℤ) (w : ℕ) (flow : Flow) (cells : ℕ) → cells ≡ 0 → MoreThan (Reached (wordGraph lo w flow)) cells
 none-fits lo w flow cells e = subst (MoreThan (Reached (wordGraph lo w flow))) (sym e) (start-outnumber (wordGraph lo w flow))
 
--- the cells that there are: each has room in the row of marks, and a search of them is a search of the rows
-pub marks-room : (r : Rows) (cells : ℕ) → cells ≡ cellsOf r → (fans : List ℕ) → length fans ≡ length (r .fans) → cells ≤ length fans
-marks-room r cells e fans same =
-    let room = roomy r cells (subst (λ (n : ℕ). cells ≤ n) e (omega arith)) .fans in
-    omega arith
+-- each of the cells has room for its marks
+pub marks-room : (c c₁ : List (List ℕ)) (size : ℕ) → size ≡ cellsOf c → length c₁ ≡ length c → size ≤ length (column marksField c₁)
+marks-room c c₁ size e same = omega (arith, e, same, length-column marksField c₁)
 
+-- a search of the cells that there are is a search of the row
 pub of-all-cells : (lo : ℤ) (w : ℕ) (flow : Flow) (r : Rows) (a b : ℕ) (v : Searched) → a ≡ b → SearchedIs lo w flow r a v
     → SearchedIs lo w flow r b v
 of-all-cells lo w flow r a b v e = subst (λ (n : ℕ). SearchedIs lo w flow r n v) e

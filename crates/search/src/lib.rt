@@ -1,13 +1,15 @@
-// The breadth-first search over the configurations of a flow, in lent rows. Entries are expanded in the order in which they were stored.
+// The breadth-first search over the configurations of a flow, in lent cells. Entries are expanded in the order in which they were stored.
 ghost use mathlib.Core.Path.{_≡_};
 ghost use Prim.Native.Nat.{_<_};
 ghost use lib.ListN.{getD};
 ghost use Rattle.configuration.specs.Step.{startOf};
-ghost use Rattle.cells.specs.Cells.{rows, mostCells, cellsOf};
-ghost use Rattle.cells.specs.Entries.{entries};
+ghost use Rattle.cells.specs.Cells.{mostCells, cellsOf};
+ghost use Rattle.cells.specs.Columns.{distanceField, column, rowsOf};
+ghost use Rattle.cells.specs.Entries.{entriesOf};
 ghost use Rattle.table.specs.Table.{wordsAt};
 ghost use Rattle.growth.specs.Fan.{Ready, Fine};
 ghost use Rattle.search.specs.Search.{Subject, ExpandedIs, Exploring, SearchedIs};
+use cells::Cell;
 use configuration::Op;
 use configuration::Words;
 use configuration::place;
@@ -21,115 +23,51 @@ pub enum Searched {
 
 // Visits what entry k leads to.
 fn expand(
-    places: &mut [u64],
-    patterns: &mut [u64],
-    distances: &mut [u32],
-    parents: &mut [u32],
-    heads: &mut [u32],
-    nexts: &mut [u32],
-    fans: &mut [u8],
+    cells: &mut [[u32; Cell::WORDS]],
     count: usize,
-    cells: usize,
+    size: usize,
     k: usize,
     op: Op,
     w: u64,
 ) -> Grown
-    requires { ⌜ Ready w (rows (now places) (now patterns) (now distances) (now parents) (now heads) (now nexts) (now fans)) count cells ⌝ }
+    requires { ⌜ Ready w (rowsOf (now cells)) count size ⌝ }
     requires { ⌜ k < count ⌝ }
-    requires { ⌜ Fine w op (wordsAt (entries (now places) (now patterns) (now distances) (now parents)) k) ⌝ }
-    requires { ⌜ getD (now distances) k 0 < mostCells ⌝ }
+    requires { ⌜ Fine w op (wordsAt (entriesOf (rowsOf (now cells))) k) ⌝ }
+    requires { ⌜ getD (column distanceField (now cells)) k 0 < mostCells ⌝ }
     ensures { λ r. ⌜ ExpandedIs w op
-        (rows (now (places .entry)) (now (patterns .entry)) (now (distances .entry)) (now (parents .entry)) (now (heads .entry))
-        (now (nexts .entry)) (now (fans .entry)))
-        (rows (now (places .exit)) (now (patterns .exit)) (now (distances .exit)) (now (parents .exit)) (now (heads .exit))
-        (now (nexts .exit)) (now (fans .exit)))
-        count cells k r ⌝ }
+        (rowsOf (now (cells .entry)))
+        (rowsOf (now (cells .exit)))
+        count size k r ⌝ }
 {
-    let x = Words {
-        place: places[k],
-        pattern: patterns[k],
-    };
-    let d = distances[k] + 1;
-    let g = growth::fan(
-        places,
-        patterns,
-        distances,
-        parents,
-        heads,
-        nexts,
-        fans,
-        count,
-        cells,
-        d,
-        k,
-        op,
-        w,
-        x,
-    );
+    let x = table::words_at(cells, k);
+    let d = cells::get(cells, k, Cell::DISTANCE) + 1;
+    let g = growth::fan(cells, count, size, d, k, op, w, x);
     let Grown::To(n) = g else {
         return Grown::Full;
     };
     let y = configuration::next(op, w, x);
-    let s = growth::visit(
-        places,
-        patterns,
-        distances,
-        parents,
-        heads,
-        nexts,
-        n,
-        cells,
-        d,
-        k,
-        y,
-    );
+    let s = growth::visit(cells, n, size, d, k, y);
     growth::after_visit(s)
 }
 
 // Expands entries until none is left or no cell is. Instruction number i is ops[i - 1]; a number that names none stops.
-fn walk(
-    places: &mut [u64],
-    patterns: &mut [u64],
-    distances: &mut [u32],
-    parents: &mut [u32],
-    heads: &mut [u32],
-    nexts: &mut [u32],
-    fans: &mut [u8],
-    cells: usize,
-    ops: [Op; 64],
-    w: u64,
-) -> Searched
+fn walk(cells: &mut [[u32; Cell::WORDS]], size: usize, ops: [Op; 64], w: u64) -> Searched
     requires { ⌜ ((s : Subject w ops) × Exploring (s .lo) w (s .flow)
-        (rows (now places) (now patterns) (now distances) (now parents) (now heads) (now nexts) (now fans)) 1 cells 0) ⌝ }
+        (rowsOf (now cells)) 1 size 0) ⌝ }
     ensures { λ r. ⌜ ((s : Subject w ops) → Exploring (s .lo) w (s .flow)
-        (rows (now (places .entry)) (now (patterns .entry)) (now (distances .entry)) (now (parents .entry)) (now (heads .entry))
-        (now (nexts .entry)) (now (fans .entry))) 1 cells 0
+        (rowsOf (now (cells .entry))) 1 size 0
         → SearchedIs (s .lo) w (s .flow)
-        (rows (now (places .exit)) (now (patterns .exit)) (now (distances .exit)) (now (parents .exit)) (now (heads .exit))
-        (now (nexts .exit)) (now (fans .exit))) cells r) ⌝ }
+        (rowsOf (now (cells .exit))) size r) ⌝ }
 {
     let mut n = 1;
     let mut k = 0;
     while k < n {
-        let i = (place::at(places[k]) + 127) % 128;
+        let i = (place::at(cells::word(cells, k, Cell::PLACE)) + 127) % 128;
         let mut op = Op::stop();
         if i < 64 {
             op = ops[i];
         }
-        let g = expand(
-            places,
-            patterns,
-            distances,
-            parents,
-            heads,
-            nexts,
-            fans,
-            n,
-            cells,
-            k,
-            op,
-            w,
-        );
+        let g = expand(cells, n, size, k, op, w);
         let Grown::To(m) = g else {
             return Searched::Full;
         };
@@ -139,53 +77,18 @@ fn walk(
     Searched::Done(n)
 }
 
-// Everything that the flow reaches from its start. Where the cells are too few the rows are left as they are.
-pub fn search(
-    places: &mut [u64],
-    patterns: &mut [u64],
-    distances: &mut [u32],
-    parents: &mut [u32],
-    heads: &mut [u32],
-    nexts: &mut [u32],
-    fans: &mut [u8],
-    ops: [Op; 64],
-    w: u64,
-    start: Words,
-) -> Searched
+// Everything that the flow reaches from its start. Where the cells are too few they are left as they are.
+pub fn search(cells: &mut [[u32; Cell::WORDS]], ops: [Op; 64], w: u64, start: Words) -> Searched
     requires { ⌜ ((s : Subject w ops) × (start ≡ startOf (s .lo))) ⌝ }
     ensures { λ r. ⌜ ((s : Subject w ops) → start ≡ startOf (s .lo)
         → SearchedIs (s .lo) w (s .flow)
-        (rows (now (places .exit)) (now (patterns .exit)) (now (distances .exit)) (now (parents .exit)) (now (heads .exit))
-        (now (nexts .exit)) (now (fans .exit)))
-        (cellsOf (rows (now (places .entry)) (now (patterns .entry)) (now (distances .entry)) (now (parents .entry)) (now (heads .entry))
-        (now (nexts .entry)) (now (fans .entry)))) r) ⌝ }
+        (rowsOf (now (cells .exit)))
+        (cellsOf (now (cells .entry))) r) ⌝ }
 {
-    let cells = cells::cells_of(places, patterns, distances, parents, heads, nexts, fans);
-    if cells == 0 {
+    let size = cells::cells_of(cells);
+    if size == 0 {
         return Searched::Full;
     }
-    cells::begin(
-        places,
-        patterns,
-        distances,
-        parents,
-        heads,
-        nexts,
-        fans,
-        cells,
-        start.place,
-        start.pattern,
-    );
-    walk(
-        places,
-        patterns,
-        distances,
-        parents,
-        heads,
-        nexts,
-        fans,
-        cells,
-        ops,
-        w,
-    )
+    cells::begin(cells, size, start.place, start.pattern);
+    walk(cells, size, ops, w)
 }

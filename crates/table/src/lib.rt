@@ -7,13 +7,17 @@ ghost use mathlib.Core.Bool.{cond, _&&_};
 ghost use Prim.Native.Nat.{_+_, _≤_, _<_};
 ghost use lib.ListN.{length, getD};
 ghost use lib.Dec.{eqb};
-ghost use Rattle.model.specs.Machine.{exitIf};
+ghost use Rattle.model.specs.Machine.{p-exit, m-exit, exitIf};
 ghost use Rattle.configuration.specs.Inner.{Below};
 ghost use Rattle.configuration.specs.Pattern.{Width};
 ghost use Rattle.configuration.specs.Place.{atOf};
 ghost use Rattle.configuration.specs.Step.{takesOf};
+ghost use Rattle.cells.specs.Columns.{placeField, patternField, distanceField, wayField, column, wordColumn, rowsOf};
+ghost use Rattle.cells.specs.Entries.{entriesOf};
+ghost use Rattle.table.specs.Table.{wordsAt};
 ghost use Rattle.table.specs.Passes.{Stands, Walkable, takesAt, FirstIs, ExitsOf};
 ghost use Rattle.table.specs.Way.{placeOn, Passable, isRead, countedOf, readsOn};
+use cells::Cell;
 use cells::Found;
 use configuration::Action;
 use configuration::Op;
@@ -28,6 +32,17 @@ const TAPES: usize = Flow::MAX_TAPES as usize;
 pub struct Distances {
     pub p: [u32; Flow::MAX_INSTRUCTIONS],
     pub m: [u32; Flow::MAX_INSTRUCTIONS],
+}
+
+// The words of entry k.
+pub fn words_at(cells: &[[u32; Cell::WORDS]], k: usize) -> Words
+    requires { ⌜ k < length (now cells) ⌝ }
+    ensures { λ r. ⌜ r ≡ wordsAt (entriesOf (rowsOf (now (cells .entry)))) k ⌝ }
+{
+    Words {
+        place: cells::word(cells, k, Cell::PLACE),
+        pattern: cells::word(cells, k, Cell::PATTERN),
+    }
 }
 
 // Where an array holds what belongs to the instruction that a place word stands at.
@@ -50,33 +65,51 @@ fn kept(cell: u32, taken: bool, d: u32) -> u32
     cell
 }
 
+// What is listed for the two exits of one instruction.
+struct Numbers {
+    p: u32,
+    m: u32,
+}
+
+// What is listed for the exits of an instruction after the entry x, at a distance of d - 1; where both are listed x need not be looked at.
+fn list_exits(p: u32, m: u32, op: Op, w: u64, x: Words, d: u32) -> Numbers
+    requires { ⌜ Width w ⌝ }
+    ensures { λ r. ⌜ (r .p ≡ cond (takesOf w op x p-exit && eqb p 0) d p) × (r .m ≡ cond (takesOf w op x m-exit && eqb m 0) d m) ⌝ }
+{
+    if p != 0 {
+        if m != 0 {
+            return Numbers { p, m };
+        }
+    }
+    let taken = configuration::exits_of(op, w, x);
+    Numbers {
+        p: kept(p, taken.p, d),
+        m: kept(m, taken.m, d),
+    }
+}
+
 // The distances of all exits.
 pub fn exits(
-    places: &[u64],
-    patterns: &[u64],
-    distances: &[u32],
+    cells: &[[u32; Cell::WORDS]],
     n: usize,
     ops: [Op; Flow::MAX_INSTRUCTIONS],
     w: u64,
 ) -> Distances
     requires { ⌜ Width w ⌝ }
-    requires { ⌜ Walkable (now places) (now patterns) (now distances) n ⌝ }
-    ensures { λ r. ⌜ ExitsOf w (now (places .entry)) (now (patterns .entry)) (now (distances .entry)) n ops r ⌝ }
+    requires { ⌜ Walkable (wordColumn placeField (now cells)) (wordColumn patternField (now cells)) (column distanceField (now cells)) n ⌝ }
+    ensures { λ r. ⌜ ExitsOf w (wordColumn placeField (now (cells .entry))) (wordColumn patternField (now (cells .entry))) (column distanceField (now (cells .entry))) n ops r ⌝ }
 {
     let mut p: [u32; Flow::MAX_INSTRUCTIONS] = [0; Flow::MAX_INSTRUCTIONS];
     let mut m: [u32; Flow::MAX_INSTRUCTIONS] = [0; Flow::MAX_INSTRUCTIONS];
     let mut k = 0;
     while k < n {
-        let x = Words {
-            place: places[k],
-            pattern: patterns[k],
-        };
+        let x = words_at(cells, k);
         let i = index(x.place);
         let op = ops[i];
-        let taken = configuration::exits_of(op, w, x);
-        let d = distances[k] + 1;
-        p[i] = kept(p[i], taken.p, d);
-        m[i] = kept(m[i], taken.m, d);
+        let d = cells::get(cells, k, Cell::DISTANCE) + 1;
+        let listed = list_exits(p[i], m[i], op, w, x, d);
+        p[i] = listed.p;
+        m[i] = listed.m;
         k += 1;
     }
     Distances { p, m }
@@ -99,8 +132,7 @@ fn takes(x: Words, op: Op, w: u64, instruction: usize, exit: bool) -> bool
 
 // The first entry that stands at the instruction, prepared as op, and takes the exit, p if `exit`: none is nearer.
 pub fn nearest(
-    places: &[u64],
-    patterns: &[u64],
+    cells: &[[u32; Cell::WORDS]],
     n: usize,
     op: Op,
     w: u64,
@@ -108,16 +140,12 @@ pub fn nearest(
     exit: bool,
 ) -> Found
     requires { ⌜ Width w ⌝ }
-    requires { ⌜ n ≤ length (now places) ⌝ }
-    requires { ⌜ n ≤ length (now patterns) ⌝ }
-    ensures { λ r. ⌜ FirstIs (takesAt w (now (places .entry)) (now (patterns .entry)) op instruction (exitIf exit)) n r ⌝ }
+    requires { ⌜ n ≤ length (now cells) ⌝ }
+    ensures { λ r. ⌜ FirstIs (takesAt w (wordColumn placeField (now (cells .entry))) (wordColumn patternField (now (cells .entry))) op instruction (exitIf exit)) n r ⌝ }
 {
     let mut k = 0;
     while k < n {
-        let x = Words {
-            place: places[k],
-            pattern: patterns[k],
-        };
+        let x = words_at(cells, k);
         if takes(x, op, w, instruction, exit) {
             return Found::At(k);
         }
@@ -168,32 +196,31 @@ pub fn wide(x: u32) -> usize
 }
 
 // The place word of the entry that stands at place t of a way.
-pub fn place_on(path: &[u32], places: &[u64], t: usize) -> u64
-    requires { ⌜ t < length (now path) ⌝ }
-    requires { ⌜ getD (now path) t 0 < length (now places) ⌝ }
-    ensures { λ r. ⌜ r ≡ placeOn (now (places .entry)) (now (path .entry)) t ⌝ }
+pub fn place_on(cells: &[[u32; Cell::WORDS]], t: usize) -> u64
+    requires { ⌜ t < length (now cells) ⌝ }
+    requires { ⌜ getD (column wayField (now cells)) t 0 < length (now cells) ⌝ }
+    ensures { λ r. ⌜ r ≡ placeOn (wordColumn placeField (now (cells .entry))) (column wayField (now (cells .entry))) t ⌝ }
 {
-    let k = wide(path[t]);
-    places[k]
+    let k = wide(cells::get(cells, t, Cell::WAY));
+    cells::word(cells, k, Cell::PLACE)
 }
 
 // How many records of each tape the steps of a way take, without the step that its last entry takes.
 pub fn reads(
-    path: &[u32],
-    places: &[u64],
+    cells: &[[u32; Cell::WORDS]],
     ops: [Op; Flow::MAX_INSTRUCTIONS],
     last: usize,
 ) -> [u32; TAPES]
-    requires { ⌜ Passable (now places) (now path) last ⌝ }
-    ensures { λ r. ⌜ r ≡ readsOn ops (now (places .entry)) (now (path .entry)) last ⌝ }
+    requires { ⌜ Passable (wordColumn placeField (now cells)) (column wayField (now cells)) last ⌝ }
+    ensures { λ r. ⌜ r ≡ readsOn ops (wordColumn placeField (now (cells .entry))) (column wayField (now (cells .entry))) last ⌝ }
 {
     let mut counts: [u32; TAPES] = [0; TAPES];
     let mut t = 0;
     while t < last {
-        let i = index(place_on(path, places, t));
+        let i = index(place_on(cells, t));
         let op = ops[i];
         t += 1;
-        let ended = place::ended(place_on(path, places, t), op.tape);
+        let ended = place::ended(place_on(cells, t), op.tape);
         let more = counted(counts, op, !ended);
         counts = more;
     }

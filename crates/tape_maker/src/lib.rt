@@ -1,38 +1,26 @@
 // The tape maker: what a maker calls. Each function takes a flow as text, refuses a faulty request itself, and has no condition on
 // its caller; specs/ has one definition for each.
 mod running; // running.rt: the request for a run
-mod planning; // planning.rt: what a text is searched by, and the search
-mod reporting; // reporting.rt: the report of a planned flow
+mod planning; // planning.rt: what a flow is searched by
+mod reporting; // reporting.rt: the report
 mod sampling; // sampling.rt: the sample for one exit
 
+ghost use mathlib.Core.Path.{_≡_};
+ghost use mathlib.Core.Bool.{true};
 ghost use lib.ListN.{length};
-ghost use Rattle.cells.specs.Cells.{rows};
+ghost use Rattle.cells.specs.Cells.{zeroed};
 ghost use Rattle.tapes.specs.Part.{spanOf, IsPart};
 ghost use Rattle.tape_maker.specs.Run.{requested, RunIs};
 ghost use Rattle.tape_maker.specs.Report.{ReportIs};
 ghost use Rattle.tape_maker.specs.Sample.{SampleIs};
+pub use cells::Cell;
 use flow::Answer;
 use flow::Flow;
 use flow::Refusal;
-
-const TAPES: usize = Flow::MAX_TAPES as usize;
-
-// How a run ends, or why it was not made.
-pub enum RunEnd {
-    Stopped,
-    Spent,
-    Full,
-    Refused(Refusal),
-}
-
-// What a run comes to: its end, the steps and the puts done, and how often each exit was taken, by instruction.
-pub struct RunAnswer {
-    pub end: RunEnd,
-    pub steps: u64,
-    pub puts: usize,
-    pub p: [u32; Flow::MAX_INSTRUCTIONS],
-    pub m: [u32; Flow::MAX_INSTRUCTIONS],
-}
+pub use interpreter::RunAnswer;
+pub use interpreter::RunEnd;
+pub use sample::SampleAnswer;
+pub use sample::SampleEnd;
 
 // Runs a flow on the tapes that stand one after another in a row. A put writes its output tape's number and its value into the next
 // cells of the two output rows.
@@ -73,104 +61,40 @@ pub struct ReportAnswer {
     pub m: [u32; Flow::MAX_INSTRUCTIONS],
 }
 
-// Reports the distance of every exit of a flow. The work rows are lent; the shortest counts, at most 65,536 cells of it.
-pub fn report(
-    text: &[u8],
-    places: &mut [u64],
-    patterns: &mut [u64],
-    distances: &mut [u32],
-    parents: &mut [u32],
-    heads: &mut [u32],
-    nexts: &mut [u32],
-    fans: &mut [u8],
-) -> ReportAnswer
-    ensures { λ r. ⌜ ReportIs (now (text .entry))
-        (rows (now (places .entry)) (now (patterns .entry)) (now (distances .entry)) (now (parents .entry)) (now (heads .entry)) (now (nexts .entry)) (now (fans .entry)))
-        (rows (now (places .exit)) (now (patterns .exit)) (now (distances .exit)) (now (parents .exit)) (now (heads .exit)) (now (nexts .exit)) (now (fans .exit)))
-        r ⌝ }
+// A refused request leaves 0 in every word of every cell.
+fn release(cells: &mut [[u32; Cell::WORDS]], refused: bool)
+    ensures { λ _. ⌜ (refused ≡ true → now (cells .exit) ≡ zeroed (now (cells .entry))) ⌝ }
 {
-    let plan = planning::plan(text);
-    let legal = plan.legal;
-    let ops = plan.ops;
-    let w = plan.w;
-    let start = plan.start;
-    let found = planning::explore(
-        places,
-        patterns,
-        distances,
-        parents,
-        heads,
-        nexts,
-        fans,
-        legal,
-        ops,
-        w,
-        start,
-    );
-    reporting::answer(places, patterns, distances, found, plan)
+    if refused {
+        cells::clear(cells);
+    }
 }
 
-// Whether a sample was taken, or no tapes take the exit.
-pub enum SampleEnd {
-    Taken,
-    Never,
-    Refused(Refusal),
-}
-
-// What a wish for a sample comes to: the exit's distance, and the lengths of the tapes in the record row.
-pub struct SampleAnswer {
-    pub end: SampleEnd,
-    pub distance: usize,
-    pub lengths: [usize; TAPES],
+// Reports the distance of every exit of a flow. The work cells are lent; at most 65,536 of them count.
+pub fn report(text: &[u8], cells: &mut [[u32; Cell::WORDS]]) -> ReportAnswer
+    ensures { λ r. ⌜ ReportIs (now (text .entry)) (now (cells .entry)) (now (cells .exit)) r ⌝ }
+{
+    let r = reporting::answer(text, cells);
+    let end = r.end;
+    release(cells, reporting::is_refusal(end));
+    r
 }
 
 // Writes a sample for an exit of an instruction, p if `exit`, into the record row, which has to be as long as the exit's distance. The work
-// rows are lent as for a report.
+// cells are lent as for a report.
 pub fn sample(
     text: &[u8],
     instruction: usize,
     exit: bool,
-    places: &mut [u64],
-    patterns: &mut [u64],
-    distances: &mut [u32],
-    parents: &mut [u32],
-    heads: &mut [u32],
-    nexts: &mut [u32],
-    fans: &mut [u8],
+    cells: &mut [[u32; Cell::WORDS]],
     row: &mut [i32],
 ) -> SampleAnswer
-    ensures { λ r. ⌜ SampleIs (now (text .entry)) instruction exit
-        (rows (now (places .entry)) (now (patterns .entry)) (now (distances .entry)) (now (parents .entry)) (now (heads .entry)) (now (nexts .entry)) (now (fans .entry)))
-        (rows (now (places .exit)) (now (patterns .exit)) (now (distances .exit)) (now (parents .exit)) (now (heads .exit)) (now (nexts .exit)) (now (fans .exit)))
-        (now (row .entry)) (now (row .exit)) r ⌝ }
+    ensures { λ r. ⌜ SampleIs (now (text .entry)) instruction exit (now (cells .entry)) (now (cells .exit)) (now (row .entry)) (now (row .exit)) r ⌝ }
 {
-    let plan = sampling::asked(text, instruction);
-    let legal = plan.legal;
-    let ops = plan.ops;
-    let w = plan.w;
-    let start = plan.start;
-    let lo = plan.lo;
-    let hi = plan.hi;
-    let drawn = sampling::draw(
-        places,
-        patterns,
-        distances,
-        parents,
-        heads,
-        nexts,
-        fans,
-        legal,
-        ops,
-        w,
-        start,
-        lo,
-        hi,
-        instruction,
-        exit,
-        row,
-    );
-    let why = plan.why;
-    sampling::answer(drawn, why)
+    let r = sampling::answer(text, instruction, exit, cells, row);
+    let end = r.end;
+    release(cells, sampling::is_refusal(end));
+    r
 }
 
 // The part of the record row that holds the records of one tape, counted from 1, by the lengths that came with the sample.

@@ -1,21 +1,35 @@
-// The report of a planned flow.
+// The report.
 ghost use mathlib.Core.Path.{_≡_};
 ghost use mathlib.Core.Bool.{false};
-ghost use Prim.Native.Nat.{ℕ, _≤_};
+ghost use Prim.Native.Nat.{_≤_};
 ghost use Rattle.model.specs.Language.{hasExits};
-ghost use Rattle.configuration.specs.Pattern.{Width};
-ghost use Rattle.table.specs.Passes.{Walkable};
-ghost use Rattle.tape_maker.specs.Report.{refusal};
-ghost use Rattle.tape_maker.specs.Inner.{exitsIn, Each, GivenIs, AnswerIs};
+ghost use Rattle.flow.specs.Code.{flowOf};
+ghost use Rattle.flow.specs.Legal.{Legal};
+ghost use Rattle.flow.specs.Read.{readFlow};
+ghost use Rattle.cells.specs.Cells.{cellsOf};
+ghost use Rattle.tape_maker.specs.Report.{refusal, FlowReport, ReportOf};
+ghost use Rattle.tape_maker.specs.Inner.{refuses, exitsIn, Each, GivenIs};
 use crate::ReportAnswer;
 use crate::ReportEnd;
-use crate::planning::Planned;
+use crate::planning;
+use cells::Cell;
+use flow::Answer;
 use flow::Flow;
 use flow::Instruction;
 use flow::Refusal;
 use flow::lent;
 use search::Searched;
 use table::Distances;
+
+// Whether a report was refused.
+pub fn is_refusal(end: ReportEnd) -> bool
+    ensures { λ r. ⌜ r ≡ refuses end ⌝ }
+{
+    match end {
+        ReportEnd::Given => false,
+        ReportEnd::Refused(_) => true,
+    }
+}
 
 // The answer for a refusal.
 fn refused(r: Refusal) -> ReportAnswer
@@ -79,30 +93,36 @@ fn given(
     }
 }
 
-// The report of a planned flow by what the search found.
-pub fn answer(
-    places: &[u64],
-    patterns: &[u64],
-    distances: &[u32],
-    found: Searched,
-    plan: Planned,
-) -> ReportAnswer
-    requires { ⌜ ((n : ℕ) → found ≡ Searched.Done n
-        → (plan .count ≤ 64) × Width (plan .w) × Walkable (now places) (now patterns) (now distances) n) ⌝ }
-    ensures { λ r. ⌜ AnswerIs (now (places .entry)) (now (patterns .entry)) (now (distances .entry)) plan r found ⌝ }
+// The report of a legal flow, or the refusal for want of cells.
+fn report_flow(flow: Flow, cells: &mut [[u32; Cell::WORDS]]) -> ReportAnswer
+    requires { ⌜ Legal (flowOf flow) × (flow .count ≤ 64) ⌝ }
+    ensures { λ r. ⌜ FlowReport (flowOf flow) (cellsOf (now (cells .entry))) r (r .end) ⌝ }
 {
+    let plan = planning::plan_of(flow);
+    let ops = plan.ops;
+    let w = plan.w;
+    let start = plan.start;
+    let found = search::search(cells, ops, w, start);
     match found {
+        Searched::Full => refused(Refusal::TooFewCells),
         Searched::Done(n) => {
-            let ops = plan.ops;
-            let w = plan.w;
-            let d = table::exits(places, patterns, distances, n, ops, w);
-            let instructions = plan.instructions;
-            let count = plan.count;
+            let d = table::exits(cells, n, ops, w);
+            let instructions = flow.instructions;
+            let count = flow.count;
             given(instructions, count, n, d)
         }
-        Searched::Full => {
-            let why = plan.why;
-            refused(why)
-        }
+    }
+}
+
+// The report of a text, or its refusal.
+pub fn answer(text: &[u8], cells: &mut [[u32; Cell::WORDS]]) -> ReportAnswer
+    ensures { λ r. ⌜ ReportOf (readFlow (now (text .entry))) (cellsOf (now (cells .entry))) r ⌝ }
+{
+    let reading = flow::read(text);
+    let answer = reading.answer;
+    let flow = reading.flow;
+    match answer {
+        Answer::Refused(why) => refused(why),
+        Answer::Legal => report_flow(flow, cells),
     }
 }

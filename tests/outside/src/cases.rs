@@ -5,9 +5,11 @@ use crate::documents::interpreter::{self, End};
 use crate::documents::reader;
 use crate::documents::sample::{faults as sample_faults, part, wanted};
 use crate::documents::search::Census;
-use crate::ffi;
+use crate::ffi::{self, Words};
 use crate::lent::{Cell, Lent};
 use crate::rng::Rng;
+
+type Faults = Vec<Option<String>>;
 
 /// What a check comes to: the outcome, for the counts, and what differs.
 pub struct Checked {
@@ -15,23 +17,21 @@ pub struct Checked {
     pub faults: Vec<String>,
 }
 
+/// The outcome of a call that returns this: an answer of a name, or a refusal.
+fn checked(returned: u32, outcome: Result<&str, Refusal>, mut faults: Faults) -> Checked {
+    let (outcome, want) = match outcome {
+        Ok(name) => (name.to_string(), 0),
+        Err(Refusal { number, place }) => (format!("refused {number}"), place * 256 + u64::from(number)),
+    };
+    faults.push((u64::from(returned) != want).then(|| format!("returns {returned}, should return {want}")));
+    Checked { outcome, faults: faults.into_iter().flatten().collect() }
+}
+
 /// A list for 64 instructions: zeros after its content.
 fn sixty_four<T: Cell>(content: &[T]) -> Vec<T> {
     let mut row = content.to_vec();
     row.resize(64, T::ZERO);
     row
-}
-
-fn refused(number: u32) -> String {
-    format!("refused {number}")
-}
-
-fn wrong_number(faults: &mut Vec<Option<String>>, is: u32, want: u32) {
-    faults.push((is != want).then(|| format!("returns {is}, should return {want}")));
-}
-
-fn checked(outcome: String, faults: Vec<Option<String>>) -> Checked {
-    Checked { outcome, faults: faults.into_iter().flatten().collect() }
 }
 
 #[derive(Debug)]
@@ -51,9 +51,9 @@ pub fn run(rng: &mut Rng, text: &[u8], case: &RunCase) -> Checked {
     let mut values = Lent::<i32>::new(rng, case.values);
     let mut p = Lent::<u32>::for_answer(rng, 64);
     let mut m = Lent::<u32>::for_answer(rng, 64);
-    let mut answer = Lent::<u64>::for_answer(rng, 4);
+    let mut answer = Lent::<u64>::for_answer(rng, 3);
     #[rustfmt::skip]
-    let number = unsafe {
+    let returned = unsafe {
         ffi::tilsando_run(
             bytes.ptr(), bytes.len(), case.limit, records.ptr(), records.len(), lengths.ptr(), lengths.len(),
             numbers.ptr(), numbers.len(), values.ptr(), values.len(),
@@ -62,86 +62,26 @@ pub fn run(rng: &mut Rng, text: &[u8], case: &RunCase) -> Checked {
     };
     let free = case.numbers.min(case.values);
     let ran = reader::read(text).and_then(|flow| interpreter::run(&flow, case.limit, &case.records, &case.lengths, free));
-    let mut faults = vec![bytes.fault("text", &[]), records.fault("records", &[]), lengths.fault("lengths", &[])];
-    match ran {
-        Err(Refusal { number: want, place }) => {
-            wrong_number(&mut faults, number, want);
-            faults.extend([numbers.fault("numbers", &[]), values.fault("values", &[])]);
-            faults.extend([p.fault("p", &[0; 64]), m.fault("m", &[0; 64]), answer.fault("answer", &[place, 0, 0, 0])]);
-            checked(refused(want), faults)
+    let mut faults = vec![bytes.changed("text"), records.changed("records"), lengths.changed("lengths")];
+    let outcome = match ran {
+        Err(why) => {
+            faults.extend([numbers.changed("numbers"), values.changed("values"), p.changed("p"), m.changed("m"), answer.changed("answer")]);
+            Err(why)
         }
         Ok(ran) => {
-            wrong_number(&mut faults, number, 0);
             let (outputs, put): (Vec<u8>, Vec<i32>) = ran.puts.iter().copied().unzip();
             faults.extend([numbers.fault("numbers", &outputs), values.fault("values", &put)]);
             faults.extend([p.fault("p", &sixty_four(&ran.p)), m.fault("m", &sixty_four(&ran.m))]);
-            let (end, outcome) = match ran.end {
+            let (end, name) = match ran.end {
                 End::Stopped => (1, "stopped"),
                 End::Spent => (2, "spent"),
                 End::Full => (3, "full"),
             };
-            faults.push(answer.fault("answer", &[0, end, ran.steps, put.len() as u64]));
-            checked(outcome.to_string(), faults)
+            faults.push(answer.fault("answer", &[end, ran.steps, put.len() as u64]));
+            Ok(name)
         }
-    }
-}
-
-/// The seven work rows: the shortest has so many cells, the others as many or more.
-pub struct Work {
-    pub places: Lent<u64>,
-    pub patterns: Lent<u64>,
-    pub distances: Lent<u32>,
-    pub parents: Lent<u32>,
-    pub heads: Lent<u32>,
-    pub nexts: Lent<u32>,
-    pub fans: Lent<u8>,
-}
-
-impl Work {
-    pub fn new(rng: &mut Rng, cells: usize) -> Work {
-        let equal = rng.percent(30);
-        let shortest = rng.below(7);
-        let mut sizes = [cells; 7];
-        for (i, size) in sizes.iter_mut().enumerate() {
-            if i != shortest && !equal {
-                *size += match rng.below(10) {
-                    0..=4 => rng.below(3),
-                    5..=8 => rng.below(40),
-                    _ => rng.below(2000),
-                };
-            }
-        }
-        Work {
-            places: Lent::new(rng, sizes[0]),
-            patterns: Lent::new(rng, sizes[1]),
-            distances: Lent::new(rng, sizes[2]),
-            parents: Lent::new(rng, sizes[3]),
-            heads: Lent::new(rng, sizes[4]),
-            nexts: Lent::new(rng, sizes[5]),
-            fans: Lent::new(rng, sizes[6]),
-        }
-    }
-
-    pub fn sizes(&self) -> [usize; 7] {
-        let Work { places, patterns, distances, parents, heads, nexts, fans } = self;
-        [places.len(), patterns.len(), distances.len(), parents.len(), heads.len(), nexts.len(), fans.len()]
-    }
-
-    /// After a refusal every cell is 0; otherwise only cells outside the rows are looked at.
-    #[rustfmt::skip]
-    fn faults(&self, refused: bool) -> Vec<Option<String>> {
-        let Work { places, patterns, distances, parents, heads, nexts, fans } = self;
-        if refused {
-            return vec![
-                places.not_zero("places"), patterns.not_zero("patterns"), distances.not_zero("distances"), parents.not_zero("parents"),
-                heads.not_zero("heads"), nexts.not_zero("nexts"), fans.not_zero("fans"),
-            ];
-        }
-        vec![
-            places.outside("places"), patterns.outside("patterns"), distances.outside("distances"), parents.outside("parents"),
-            heads.outside("heads"), nexts.outside("nexts"), fans.outside("fans"),
-        ]
-    }
+    };
+    checked(returned, outcome, faults)
 }
 
 /// A text with what is known of it: the refusal, or the flow and its census, none if the configurations outnumber 65,536.
@@ -157,48 +97,35 @@ fn distances(row: &[Option<u32>]) -> Vec<u32> {
     sixty_four(&row.iter().map(|d| d.unwrap_or(0)).collect::<Vec<u32>>())
 }
 
-pub fn report(rng: &mut Rng, text: &[u8], known: &Known, work: &mut Work) -> Checked {
+pub fn report(rng: &mut Rng, text: &[u8], known: &Known, cells: &mut Lent<Words>) -> Checked {
     let mut bytes = Lent::of(rng, text);
     let mut two = Lent::<u8>::for_answer(rng, 64);
     let mut p = Lent::<u32>::for_answer(rng, 64);
     let mut m = Lent::<u32>::for_answer(rng, 64);
-    let mut answer = Lent::<u64>::for_answer(rng, 3);
+    let mut answer = Lent::<u64>::for_answer(rng, 2);
     #[rustfmt::skip]
-    let number = unsafe {
+    let returned = unsafe {
         ffi::tilsando_report(
-            bytes.ptr(), bytes.len(),
-            work.places.ptr(), work.places.len(), work.patterns.ptr(), work.patterns.len(),
-            work.distances.ptr(), work.distances.len(), work.parents.ptr(), work.parents.len(),
-            work.heads.ptr(), work.heads.len(), work.nexts.ptr(), work.nexts.len(), work.fans.ptr(), work.fans.len(),
+            bytes.ptr(), bytes.len(), cells.ptr(), cells.len(),
             two.ptr(), two.len(), p.ptr(), p.len(), m.ptr(), m.len(), answer.ptr(), answer.len(),
         )
     };
-    let cells = work.sizes().into_iter().min().unwrap_or(0);
-    let given = match known {
-        Err(refusal) => Err(*refusal),
-        Ok((flow, census)) => searched(census, cells).map(|census| (flow, census)),
-    };
-    let mut faults = work.faults(given.is_err());
-    faults.push(bytes.fault("text", &[]));
-    match given {
-        Err(Refusal { number: want, place }) => {
-            wrong_number(&mut faults, number, want);
-            faults.extend([two.fault("two", &[0; 64]), p.fault("p", &[0; 64]), m.fault("m", &[0; 64])]);
-            faults.push(answer.fault("answer", &[place, 0, 0]));
-            checked(refused(want), faults)
+    let mut faults = vec![bytes.changed("text")];
+    let given = known.as_ref().map_err(|why| *why).and_then(|(flow, census)| Ok((flow, searched(census, cells.len())?)));
+    let outcome = match given {
+        Err(why) => {
+            faults.extend([two.changed("two"), p.changed("p"), m.changed("m"), answer.changed("answer"), cells.not_zero("cells")]);
+            Err(why)
         }
         Ok((flow, census)) => {
-            wrong_number(&mut faults, number, 0);
             let exits: Vec<u8> = flow.instructions.iter().map(|x| u8::from(x.exits().is_some())).collect();
-            faults.extend([
-                two.fault("two", &sixty_four(&exits)),
-                p.fault("p", &distances(&census.p)),
-                m.fault("m", &distances(&census.m)),
-            ]);
-            faults.push(answer.fault("answer", &[0, exits.len() as u64, census.configurations as u64]));
-            checked("given".to_string(), faults)
+            faults.extend([two.fault("two", &sixty_four(&exits)), cells.outside("cells")]);
+            faults.extend([p.fault("p", &distances(&census.p)), m.fault("m", &distances(&census.m))]);
+            faults.push(answer.fault("answer", &[exits.len() as u64, census.configurations as u64]));
+            Ok("given")
         }
-    }
+    };
+    checked(returned, outcome, faults)
 }
 
 #[derive(Debug)]
@@ -208,55 +135,66 @@ pub struct SampleCase {
     pub row: usize,
 }
 
-pub fn sample(rng: &mut Rng, text: &[u8], known: &Known, work: &mut Work, case: &SampleCase) -> Checked {
+pub fn sample(rng: &mut Rng, text: &[u8], known: &Known, cells: &mut Lent<Words>, case: &SampleCase) -> Checked {
     // Any number but 0 asks for exit p.
     let exit = if case.exit { *rng.pick(&[1, 1, 2, 255]) } else { 0 };
     let mut bytes = Lent::of(rng, text);
     let mut row = Lent::<i32>::new(rng, case.row);
     let mut answer = Lent::<u64>::for_answer(rng, 5);
     #[rustfmt::skip]
-    let number = unsafe {
+    let returned = unsafe {
         ffi::tilsando_sample(
-            bytes.ptr(), bytes.len(), case.instruction, exit,
-            work.places.ptr(), work.places.len(), work.patterns.ptr(), work.patterns.len(),
-            work.distances.ptr(), work.distances.len(), work.parents.ptr(), work.parents.len(),
-            work.heads.ptr(), work.heads.len(), work.nexts.ptr(), work.nexts.len(), work.fans.ptr(), work.fans.len(),
+            bytes.ptr(), bytes.len(), case.instruction, exit, cells.ptr(), cells.len(),
             row.ptr(), row.len(), answer.ptr(), answer.len(),
         )
     };
-    let cells = work.sizes().into_iter().min().unwrap_or(0);
-    let want = match known {
-        Err(refusal) => Err(*refusal),
-        Ok((flow, census)) => wanted(flow, case.instruction, case.exit, searched(census, cells), case.row),
-    };
-    let mut faults = work.faults(want.is_err());
-    faults.push(bytes.fault("text", &[]));
-    match want {
-        Err(Refusal { number: want, place }) => {
-            wrong_number(&mut faults, number, want);
-            faults.extend([row.fault("row", &[]), answer.fault("answer", &[place, 0, 0, 0, 0])]);
-            checked(refused(want), faults)
+    let mut faults = vec![bytes.changed("text")];
+    let given = known.as_ref().map_err(|why| *why).and_then(|(flow, census)| {
+        let distance = wanted(flow, case.instruction, case.exit, searched(census, cells.len()), case.row)?;
+        Ok(distance.map(|d| (flow, d)))
+    });
+    let outcome = match given {
+        Err(why) => {
+            faults.extend([row.changed("row"), answer.changed("answer"), cells.not_zero("cells")]);
+            Err(why)
         }
         Ok(None) => {
-            wrong_number(&mut faults, number, 0);
-            faults.extend([row.fault("row", &[]), answer.fault("answer", &[0, 0, 0, 0, 0])]);
-            checked("none".to_string(), faults)
+            faults.extend([row.changed("row"), answer.fault("answer", &[0; 5]), cells.outside("cells")]);
+            Ok("none")
         }
-        Ok(Some(d)) => {
-            wrong_number(&mut faults, number, 0);
-            // The lengths are free within what is said of them, so a short answer row is compared as far as the distance.
-            let mut content = vec![0, u64::from(d)];
-            content.extend(answer.now().iter().skip(2).take(3));
-            faults.push(answer.fault("answer", &content));
-            if let (Some(lengths), Ok((flow, _))) = (answer.now().get(2..5), known) {
-                faults.extend(sample_faults(flow, case.instruction, case.exit, d, row.now(), lengths).into_iter().map(Some));
-                let written: u128 = lengths.iter().map(|n| *n as u128).sum();
-                let written = row.now()[..(written.min(row.len() as u128)) as usize].to_vec();
-                faults.push(row.fault("row", &written));
+        Ok(Some((flow, d))) => {
+            // The lengths are free within what is said of them. A short answer row does not tell them all; they add up to d at most.
+            let lengths: Vec<u64> = answer.now().iter().skip(2).take(3).copied().collect();
+            let whole = lengths.len() == 3;
+            let written = if whole { lengths.iter().map(|n| u128::from(*n)).sum() } else { u128::from(d) };
+            let records = &row.now()[..written.min(row.len() as u128) as usize];
+            faults.extend([row.fault("row", records), cells.outside("cells")]);
+            faults.push(answer.fault("answer", &[&[u64::from(d), flow.tapes as u64], &lengths[..]].concat()));
+            if whole {
+                let found = sample_faults(flow, case.instruction, case.exit, d, row.now(), &lengths);
+                if found.is_empty() {
+                    faults.extend(handed_on(rng, text, row.now(), records, d, &lengths[..flow.tapes]));
+                }
+                faults.extend(found.into_iter().map(Some));
             }
-            checked("given".to_string(), faults)
+            Ok("given")
         }
+    };
+    checked(returned, outcome, faults)
+}
+
+/// A sample handed on with its T lengths: to the helper, for every tape, tape 0 and tape T + 1, and to a run.
+fn handed_on(rng: &mut Rng, text: &[u8], row: &[i32], records: &[i32], d: u32, lengths: &[u64]) -> Faults {
+    let lengths: Vec<usize> = lengths.iter().map(|n| *n as usize).collect();
+    let mut faults = Vec::new();
+    for number in 0..=lengths.len() + 1 {
+        let row = if rng.percent(50) { row } else { records };
+        let asked = tape(rng, &TapeCase { row: row.to_vec(), lengths: lengths.clone(), tape: number });
+        faults.extend(asked.faults.into_iter().map(|fault| Some(format!("tape {number}: {fault}"))));
     }
+    let case = RunCase { limit: u64::from(d), records: records.to_vec(), lengths, numbers: d as usize, values: d as usize };
+    faults.extend(run(rng, text, &case).faults.into_iter().map(|fault| Some(format!("its run: {fault}"))));
+    faults
 }
 
 #[derive(Debug)]
@@ -271,13 +209,12 @@ pub fn tape(rng: &mut Rng, case: &TapeCase) -> Checked {
     let mut lengths = Lent::of(rng, &case.lengths);
     let mut answer = Lent::<u64>::for_answer(rng, 2);
     #[rustfmt::skip]
-    let number = unsafe {
+    let returned = unsafe {
         ffi::tilsando_tape(
             row.ptr(), row.len(), lengths.ptr(), lengths.len(), case.tape, answer.ptr(), answer.len(),
         )
     };
     let (start, count) = part(case.row.len(), &case.lengths, case.tape);
-    let mut faults = vec![answer.fault("answer", &[start as u64, count as u64]), row.fault("row", &[]), lengths.fault("lengths", &[])];
-    wrong_number(&mut faults, number, 0);
-    checked(if count > 0 { "a part" } else { "the empty part" }.to_string(), faults)
+    let faults = vec![answer.fault("answer", &[start as u64, count as u64]), row.changed("row"), lengths.changed("lengths")];
+    checked(returned, Ok(if count > 0 { "a part" } else { "the empty part" }), faults)
 }

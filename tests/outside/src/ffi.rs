@@ -3,6 +3,9 @@
 #[allow(non_camel_case_types)]
 type size_t = usize;
 
+/// A cell of the search.
+pub type Words = [u32; 10];
+
 #[rustfmt::skip]
 extern "C" {
     pub fn tilsando_run(
@@ -13,19 +16,13 @@ extern "C" {
     ) -> u32;
 
     pub fn tilsando_report(
-        text: *const u8, text_len: size_t,
-        places: *mut u64, places_len: size_t, patterns: *mut u64, patterns_len: size_t,
-        distances: *mut u32, distances_len: size_t, parents: *mut u32, parents_len: size_t,
-        heads: *mut u32, heads_len: size_t, nexts: *mut u32, nexts_len: size_t, fans: *mut u8, fans_len: size_t,
+        text: *const u8, text_len: size_t, cells: *mut Words, cells_len: size_t,
         two: *mut u8, two_len: size_t, p: *mut u32, p_len: size_t, m: *mut u32, m_len: size_t,
         answer: *mut u64, answer_len: size_t,
     ) -> u32;
 
     pub fn tilsando_sample(
-        text: *const u8, text_len: size_t, instruction: u64, exit: u8,
-        places: *mut u64, places_len: size_t, patterns: *mut u64, patterns_len: size_t,
-        distances: *mut u32, distances_len: size_t, parents: *mut u32, parents_len: size_t,
-        heads: *mut u32, heads_len: size_t, nexts: *mut u32, nexts_len: size_t, fans: *mut u8, fans_len: size_t,
+        text: *const u8, text_len: size_t, instruction: u64, exit: u8, cells: *mut Words, cells_len: size_t,
         row: *mut i32, row_len: size_t, answer: *mut u64, answer_len: size_t,
     ) -> u32;
 

@@ -1,5 +1,6 @@
 //! Rows lent to the library: filled with known cells, with guards on both sides, so that every cell that changes is seen.
 
+use crate::ffi::Words;
 use crate::rng::Rng;
 use std::fmt::Debug;
 
@@ -26,6 +27,13 @@ cell!(u32);
 cell!(u64);
 cell!(usize);
 cell!(i32);
+
+impl Cell for Words {
+    const ZERO: Words = [0; 10];
+    fn of(x: u64) -> Words {
+        std::array::from_fn(|i| x.rotate_left(4 * i as u32) as u32 | 1)
+    }
+}
 
 pub struct Lent<T> {
     cells: Vec<T>,
@@ -73,6 +81,11 @@ impl<T: Cell> Lent<T> {
         self.cells[..GUARD] == self.before[..GUARD] && self.cells[end..] == self.before[end..]
     }
 
+    /// What differs from the row as it was lent.
+    pub fn changed(&self, name: &str) -> Option<String> {
+        self.fault(name, &[])
+    }
+
     /// What differs from this content at the row's start, cut to the row, with all cells after it as they were.
     pub fn fault(&self, name: &str, content: &[T]) -> Option<String> {
         let mut want = self.before[GUARD..GUARD + self.len()].to_vec();
@@ -97,5 +110,17 @@ impl<T: Cell> Lent<T> {
     /// What changed outside the row.
     pub fn outside(&self, name: &str) -> Option<String> {
         (!self.guards()).then(|| format!("{name}: cells outside the row of {} are changed", self.len()))
+    }
+}
+
+/// Cells for a search. They hold any numbers but 0, numbers that could name one of them, or what the last call left.
+pub fn cells(rng: &mut Rng, len: usize, left: &[Words]) -> Lent<Words> {
+    match rng.below(3) {
+        0 if !left.is_empty() => Lent::of(rng, &left.iter().copied().cycle().take(len).collect::<Vec<_>>()),
+        1 => {
+            let content: Vec<Words> = (0..len).map(|_| [0; 10].map(|_| 1 + rng.below(len + 1) as u32)).collect();
+            Lent::of(rng, &content)
+        }
+        _ => Lent::new(rng, len),
     }
 }

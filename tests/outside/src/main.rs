@@ -14,9 +14,10 @@ mod lent;
 mod program;
 mod rng;
 
-use cases::{Checked, Known, RunCase, SampleCase, TapeCase, Work};
+use cases::{Checked, Known, RunCase, SampleCase, TapeCase};
 use documents::flow::Flow;
 use documents::{pieces, reader, search};
+use ffi::Words;
 use rng::Rng;
 use std::collections::BTreeMap;
 use std::fmt::Debug;
@@ -38,6 +39,7 @@ struct Tally {
     seed: u64,
     by_outcome: BTreeMap<(&'static str, String), usize>,
     confirmed: usize,
+    past: usize,
     configurations: usize,
     distance: u32,
     differences: usize,
@@ -63,6 +65,12 @@ impl Tally {
         }
     }
 
+    /// A search in so many cells.
+    fn note_search(&mut self, sort: &'static str, checked: Checked, text: &[u8], case: &dyn Debug, cells: usize) {
+        self.past += usize::from(cells > MOST && checked.outcome.starts_with("refused"));
+        self.note(sort, checked, text, &(case, cells));
+    }
+
     /// The outcomes that were never met, of the sorts that were tried.
     fn missing(&self, tried: impl Fn(&str) -> bool) -> Vec<String> {
         let refusals: Vec<String> = (1..=8).map(|n| format!("refused {n}")).collect();
@@ -74,6 +82,9 @@ impl Tally {
                     missing.push(format!("{sort}: {outcome}"));
                 }
             }
+        }
+        if self.past == 0 {
+            missing.push("cells past 65,536 after a refusal".to_string());
         }
         missing
     }
@@ -213,8 +224,23 @@ fn confirm(tally: &mut Tally, text: &[u8], known: &Known) {
     }
 }
 
+/// A report in so many cells; `left` is what the last call left in them.
+fn report(rng: &mut Rng, tally: &mut Tally, left: &mut Vec<Words>, text: &[u8], known: &Known, cells: usize) {
+    let mut lent = lent::cells(rng, cells, left);
+    let checked = cases::report(rng, text, known, &mut lent);
+    tally.note_search("report", checked, text, &"", cells);
+    *left = lent.now().to_vec();
+}
+
+fn sample(rng: &mut Rng, tally: &mut Tally, left: &mut Vec<Words>, text: &[u8], known: &Known, cells: usize, case: &SampleCase) {
+    let mut lent = lent::cells(rng, cells, left);
+    let checked = cases::sample(rng, text, known, &mut lent, case);
+    tally.note_search("sample", checked, text, case, cells);
+    *left = lent.now().to_vec();
+}
+
 /// The report of a text, and samples for some of its exits.
-fn report_and_samples(rng: &mut Rng, tally: &mut Tally, text: &[u8], samples: usize) {
+fn report_and_samples(rng: &mut Rng, tally: &mut Tally, left: &mut Vec<Words>, text: &[u8], samples: usize) {
     let known = known(text);
     confirm(tally, text, &known);
     if let Ok((_, Some(census))) = &known {
@@ -222,31 +248,23 @@ fn report_and_samples(rng: &mut Rng, tally: &mut Tally, text: &[u8], samples: us
         tally.distance = tally.distance.max(census.p.iter().chain(&census.m).filter_map(|d| *d).max().unwrap_or(0));
     }
     let cells = cells_for(rng, &known);
-    let mut work = Work::new(rng, cells);
-    let checked = cases::report(rng, text, &known, &mut work);
-    tally.note("report", checked, text, &work.sizes());
+    report(rng, tally, left, text, &known, cells);
     for _ in 0..samples {
         let case = sample_case(rng, &known);
         let cells = cells_for(rng, &known);
-        let mut work = Work::new(rng, cells);
-        let checked = cases::sample(rng, text, &known, &mut work, &case);
-        tally.note("sample", checked, text, &(&case, work.sizes()));
+        sample(rng, tally, left, text, &known, cells, &case);
     }
 }
 
-/// Flows of 65,535 to 65,537 configurations, with rows about as long.
+/// Flows of 65,535 to 65,537 configurations, with about as many cells, none of them 0.
 fn edges(rng: &mut Rng, tally: &mut Tally) {
     for n in 0..3 {
         let text = gen::edge(n).text().into_bytes();
         let known = known(&text);
         for cells in [MOST - 2 + n, MOST - 1 + n, MOST + n, MOST + 3000] {
-            let mut work = Work::new(rng, cells);
-            let checked = cases::report(rng, &text, &known, &mut work);
-            tally.note("report", checked, &text, &work.sizes());
-            let mut work = Work::new(rng, cells);
+            report(rng, tally, &mut Vec::new(), &text, &known, cells);
             let case = SampleCase { instruction: n as u64 + 3, exit: false, row: 5 };
-            let checked = cases::sample(rng, &text, &known, &mut work, &case);
-            tally.note("sample", checked, &text, &(&case, work.sizes()));
+            sample(rng, tally, &mut Vec::new(), &text, &known, cells, &case);
         }
     }
 }
@@ -260,8 +278,9 @@ fn main() -> ExitCode {
     pieces::check();
     assert_eq!(search::census(&gen::edge(0), MOST).map(|c| c.configurations), Ok(MOST - 1));
     let rng = &mut Rng::new(seed);
-    let mut tally = Tally { seed, by_outcome: BTreeMap::new(), confirmed: 0, configurations: 0, distance: 0, differences: 0 };
+    let mut tally = Tally { seed, by_outcome: BTreeMap::new(), confirmed: 0, past: 0, configurations: 0, distance: 0, differences: 0 };
     edges(rng, &mut tally);
+    let left = &mut Vec::new();
     for round in 0..rounds {
         let flow = gen::flow(rng);
         let text = flow.text().into_bytes();
@@ -272,7 +291,7 @@ fn main() -> ExitCode {
             tally.note("run", checked, &text, &case);
         }
         if round % 2 == 0 {
-            report_and_samples(rng, &mut tally, &text, 3);
+            report_and_samples(rng, &mut tally, left, &text, 3);
         }
         if let (0, Some(program)) = (round % 16, &program) {
             tally.note("program", program::report(program, &text), &text, &"");
@@ -285,7 +304,7 @@ fn main() -> ExitCode {
         let checked = cases::run(rng, &text, &case);
         tally.note("run", checked, &text, &case);
         if round % 8 == 0 {
-            report_and_samples(rng, &mut tally, &text, 1);
+            report_and_samples(rng, &mut tally, left, &text, 1);
         }
         let case = tape_case(rng);
         let checked = cases::tape(rng, &case);
@@ -295,6 +314,7 @@ fn main() -> ExitCode {
         println!("{count:7} {sort}: {outcome}");
     }
     println!("searches of our own confirmed by trial of numbers: {}", tally.confirmed);
+    println!("refusals with more than 65,536 cells: {}", tally.past);
     println!("generated flows have up to {} configurations, distances up to {}", tally.configurations, tally.distance);
     let missing = tally.missing(|sort| sort != "program" || program.is_some());
     for outcome in &missing {

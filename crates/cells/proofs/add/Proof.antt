@@ -1,17 +1,51 @@
--- `cells::add` meets its contract: `insert` with two stores.
-use mathlib.Core.Path.{refl}
-use lib.ListN.{length-set}
+-- `cells::add` meets its contract: the entry is written, and its bucket's head leads to it (proofs/Entering.antt).
+use native.Mathlib.Omega.{arith}
 use borrow.Author.Needs.{needs}
+use Rattle.cells.proofs.Entering.{room, added, filled-more, marks-added, rest-kept}
 use Rattle.cells.proofs.add.Statement.{statement}
 use Rattle.cells.proofs.add.Tie as tie
 
+first-requires : tie.Need-first-requires
+first-requires c κs =
+    let b = c .before in
+    (b .before .pre .0, b .bucket .ensures .1)
+
+bucket-fits : tie.Need-cast-enter
+bucket-fits c =
+    let b = c .before .before .before in
+    let below = b .bucket .ensures .1 in
+    let few = b .before .pre .0 .index .few in
+    search needs
+
+enter-requires : tie.Need-enter-requires
+enter-requires c κs =
+    let start = c .before .before .before .before in
+    omega (arith, room _ (start .pre .0), start .pre .1)
+
+put-requires : tie.Need-put-requires
+put-requires c κs =
+    let e = c .before .before in
+    let b = e .before .before .before .before in
+    (omega (arith, room _ (b .before .pre .0), b .bucket .ensures .1, e .enter .kept), omega arith)
+
 returns : tie.Need-returns
 returns c =
-    let stored = c .before .before .before .before .before .before .before .before in
-    let i = stored .insert .ensures in
-    let old = stored .before .before .before .before .before .before .before .before .before .before .before .pre .0 in (
-      record { places = i .0; patterns = i .1 .0; distances = refl; parents = refl },
-      record { index = i .1 .1; distance-room = simp length-set (old .distance-room); parent-room = simp length-set (old .parent-room) },
+    let p = c .before in
+    let e = p .before .before .before in
+    let g = e .before .before in
+    let b = g .before .before in
+    let start = b .before in
+    let f = start .pre .0 in
+    let l = start .pre .1 in
+    let h = b .bucket .ensures .0 in (
+      added _ _ _ _ _ _ _ _ _ _ _ f l h (g .first .ensures) (e .enter .ensures) (p .put .ensures),
+      (
+        filled-more _ _ _ _ _ _ _ _ _ _ _ f l h (g .first .ensures) (e .enter .ensures) (p .put .ensures),
+        (
+          marks-added _ _ _ _ _ _ _ _ _ _ _ f l h (g .first .ensures) (e .enter .ensures) (p .put .ensures),
+          rest-kept _ _ _ _ _ _ _ _ _ _ _ f l h (g .first .ensures) (e .enter .ensures) (p .put .ensures),
+        ),
+      ),
     )
 
 pub add-spec : {M : Type 1} → statement M
@@ -19,14 +53,11 @@ add-spec =
     tie.close
     (tie.spec
     (λ c κs. search needs)
+    first-requires
+    bucket-fits
+    enter-requires
     (λ c. search needs)
     (λ c. search needs)
-    (λ c. search needs)
-    (λ c. search needs)
-    (λ c. search needs)
-    (λ c. search needs)
-    (λ c. search needs)
-    (λ c. search needs)
-    (λ c. search needs)
+    put-requires
     (λ c. search needs)
     returns)

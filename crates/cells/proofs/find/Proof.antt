@@ -1,44 +1,73 @@
--- `cells::find` meets its contract: the walk along the bucket's chain passes no entry of the node (proofs/Walk.antt). It goes to earlier
--- entries, so the place where it stands is the measure.
-use mathlib.Core.Path.{ap, ap₂}
+-- `cells::find` meets its contract: the walk along the chain passes no entry of the node (proofs/Walk.antt). It goes to earlier entries, so the
+-- place where it stands is the measure.
+use mathlib.Core.Path.{sym, ap, ap₂, _∙_}
 use mathlib.Core.Logic.{⊎-elim}
 use Prim.Native.Nat.{_<_}
 use native.Mathlib.Omega.{arith}
 use borrow.Author.Needs.{needs}
+use Rattle.cells.specs.Columns.{placeField, patternField, wordColumn}
 use Rattle.cells.specs.Index.{Node, node, FoundIs}
+use Rattle.cells.proofs.Entering.{room}
 use Rattle.cells.proofs.Walk.{Walking, walk-start, walk-falls, walk-next}
 use Rattle.cells.proofs.find.Statement.{statement}
 use Rattle.cells.proofs.find.Tie as tie
 
 abbrev Inv-loop : tie.InvT-loop
-Inv-loop places patterns heads nexts count cells place pattern h cur₀ cur = Walking places patterns count cells (node place pattern) cur
+Inv-loop cells count size place pattern h cur₀ cur = Walking (wordColumn placeField cells) (wordColumn patternField cells) count size (node place pattern) cur
 
 abbrev μ-loop : tie.MeasureT-loop
-μ-loop places patterns heads nexts count cells place pattern h cur₀ cur = cur
+μ-loop cells count size place pattern h cur₀ cur = cur
+
+first-requires : tie.Need-first-requires Inv-loop μ-loop
+first-requires c κs = (c .before .pre, c .bucket .ensures .1)
 
 loop-holds : tie.Need-loop-holds Inv-loop μ-loop
 loop-holds c =
-    let b = c .before .before in
-    walk-start _ _ _ _ _ _ _ (b .before .before .before .before .before .pre) _ _ (b .bucket .ensures .0) (c .wide .ensures)
+    let first = c .before in
+    let b = first .before in
+    walk-start _ _ _ _ _ _ _ (b .before .pre .index) _ _ _ (b .bucket .ensures .0) (first .first .ensures) (c .wide .ensures)
+
+word-requires : tie.Need-word-requires Inv-loop μ-loop
+word-requires c κs =
+    let start = c .before .before .before .before .before in
+    (omega (arith, room _ (start .pre), c .before .loop .inv .within, c .loop-test .taken), omega arith)
+
+word-requires-2 : tie.Need-word-requires-2 Inv-loop μ-loop
+word-requires-2 c κs =
+    let start = c .before .before .before .before .before .before .before in
+    (omega (arith, room _ (start .pre), c .before .before .before .loop .inv .within, c .before .before .loop-test .taken), omega arith)
 
 returns : tie.Need-returns Inv-loop μ-loop
 unfolding FoundIs
-returns c = (omega arith, ap₂ node (c .before .before .if1 .taken) (c .if2 .taken))
+returns c =
+    let second = c .before in
+    let first = second .before .before in
+    (omega arith, ap₂ node (sym (first .word .ensures) ∙ second .before .if1 .taken) (sym (second .word2 .ensures) ∙ c .if2 .taken))
+
+get-requires : tie.Need-get-requires Inv-loop μ-loop
+get-requires c κs =
+    let at = c .before .before .before in
+    let start = at .before .before .before .before in
+    (omega (arith, room _ (start .pre), at .loop .inv .within, c .before .before .loop-test .taken), omega arith)
 
 loop-less : tie.Need-loop-less Inv-loop μ-loop
 loop-less c =
-    let l = c .before .before .before .before .before in
-    let more : 0 < l .loop .cur = omega (arith, c .before .before .before .before .loop-test .taken) in
-    let indexed = l .before .before .before .before .before .before .before .before .pre in
-    omega (arith, c .wide2 .ensures, walk-falls _ _ _ _ _ _ _ indexed _ (l .loop .inv) more)
+    let inside = c .before .before .before .before in
+    let l = inside .before in
+    let more : 0 < l .loop .cur = omega (arith, inside .loop-test .taken) in
+    let filled = l .before .before .before .before .pre in
+    omega (arith, c .wide2 .ensures, c .before .get .ensures, walk-falls _ _ _ _ _ _ _ (filled .index) _ (l .loop .inv) more)
 
 loop-again : tie.Need-loop-again Inv-loop μ-loop
 loop-again c =
-    let l = c .before .before .before .before .before in
-    let more : 0 < l .loop .cur = omega (arith, c .before .before .before .before .loop-test .taken) in
-    walk-next _ _ _ _ _ _ _ (l .before .before .before .before .before .before .before .before .pre) _ (l .loop .inv) more
-    (⊎-elim (λ w. λ e. w .2 .left (ap (λ (x : Node). x .pattern) e)) (λ w. λ e. w .left (ap (λ (x : Node). x .place) e))
-    (c .before .before .if1 .came)) _ (c .wide2 .ensures)
+    let joined = c .before .before in
+    let first = joined .before in
+    let inside = first .before in
+    let l = inside .before in
+    let more : 0 < l .loop .cur = omega (arith, inside .loop-test .taken) in
+    walk-next _ _ _ _ _ _ _ (l .before .before .before .before .pre .index) _ (l .loop .inv) more
+    (⊎-elim (λ w. λ e. w .2 .left (w .1 .ensures ∙ ap (λ (x : Node). x .pattern) e)) (λ w. λ e. w .left (first .word .ensures ∙ ap (λ (x : Node). x .place) e))
+    (joined .if1 .came)) _ (c .wide2 .ensures ∙ c .before .get .ensures)
 
 returns-2 : tie.Need-returns-2 Inv-loop μ-loop
 unfolding FoundIs
@@ -51,18 +80,14 @@ find-spec =
     Inv-loop
     μ-loop
     (λ c κs. search needs)
-    (λ c. search needs)
-    (λ c. search needs)
+    first-requires
     (λ c κs. search needs)
     loop-holds
     (λ c. search needs)
-    (λ c. search needs)
-    (λ c. search needs)
-    (λ c. search needs)
-    (λ c. search needs)
+    word-requires
+    word-requires-2
     returns
-    (λ c. search needs)
-    (λ c. search needs)
+    get-requires
     (λ c κs. search needs)
     loop-less
     loop-again

@@ -1,58 +1,111 @@
--- `cells::trace` meets its contract: path holds the way from the place where the loop stands (proofs/WayBack.antt), which is the measure.
-use mathlib.Core.Path.{_∙_}
+-- `cells::trace` meets its contract: the field holds the way from the place where the loop stands (proofs/WayBack.antt), which is the measure.
+use mathlib.Core.Path.{refl, _∙_}
+use mathlib.Core.List.{List, []}
+use Prim.Native.Nat.{ℕ, _≤_}
 use native.Mathlib.Omega.{arith}
-use borrow.Author.Needs.{needs, scaled-fits}
-use lib.ListN.{length, length-set}
-use denote.Ref.{now}
-use Rattle.cells.proofs.WayBack.{Tracing, trace-start, entry-below, parent-below, trace-more, trace-end}
+use borrow.Author.Needs.{needs}
+use lib.ListN.{length}
+use Rattle.cells.specs.Columns.{distanceField, parentField, wayField, column}
+use Rattle.cells.specs.Way.{Parents}
+use Rattle.cells.proofs.Fields.{length-column}
+use Rattle.cells.proofs.WayBack.{TracingIn, parents-then, traced-first, traced-last, parent-is, traced-more, entry-below, parent-below, trace-end}
+use Rattle.cells.proofs.get.Reads as get-reads
+use Rattle.cells.proofs.put.Reads as put-reads
+use Rattle.cells.proofs.wide.Reads as wide-reads
+use Rattle.cells.proofs.trace.Reads as reads
+use Rattle.cells.proofs.trace.Lts as lts
 use Rattle.cells.proofs.trace.Statement.{statement}
 use Rattle.cells.proofs.trace.Tie as tie
 
 abbrev Inv-loop : tie.InvT-loop
-Inv-loop distances parents path₀ n at i₀ d₀ path i d = Tracing distances parents path₀ path n at d₀ i d
+Inv-loop cells₀ n at i₀ d₀ cells i d = TracingIn cells₀ cells n at d₀ i d
 
 abbrev μ-loop : tie.MeasureT-loop
-μ-loop distances parents path₀ n at i₀ d₀ path i d = d
+μ-loop cells₀ n at i₀ d₀ cells i d = d
+
+-- the entries are there
+there : (c : List (List ℕ)) {n : ℕ} → Parents (column distanceField c) (column parentField c) n → n ≤ length c
+there c p = omega (arith, p .distance-room, length-column distanceField c)
+
+get-requires : tie.Need-get-requires Inv-loop μ-loop
+get-requires c κs =
+    let a = c .before in
+    (omega (arith, there _ (a .pre .0), a .pre .1 .0), omega arith)
+
+put-requires : tie.Need-put-requires Inv-loop μ-loop
+put-requires c κs =
+    let w = c .before in
+    (omega (arith, w .wide .ensures, w .before .get .ensures, w .before .before .before .pre .1 .1), omega arith)
 
 loop-holds : tie.Need-loop-holds Inv-loop μ-loop
 loop-holds c =
-    let a = c .before .before .before .before .before in
-    trace-start _ _ (now (a .args .path)) _ _ _ (a .pre .1 .0) (c .wide .ensures) (omega (arith, c .wide .ensures, a .pre .1 .1))
+    let p = c .before in
+    let w = p .before .before in
+    let g = w .before in
+    let a = g .before .before in
+    record {
+      tracing =
+          traced-first _ _ _ _ _ (a .pre .0) (a .pre .1 .0) (w .wide .ensures ∙ g .get .ensures) (p .put .ensures)
+          (omega (arith, w .wide .ensures, g .get .ensures, a .pre .1 .1));
+      only = λ g n. refl;
+      size = refl;
+    }
 
-mul-wide-2 : tie.Need-mul-wide-2 Inv-loop μ-loop
-mul-wide-2 c =
-    let a = c .before .before .before .before .before .before .before in
-    scaled-fits _ (length (now (a .args .parents))) 4 (omega (arith, entry-below (a .pre .0) (c .before .loop .inv), a .pre .0 .parent-room))
-    (a .good .1 .0 .1)
+-- ---- the way: the parents where the loop begins, and where it stands
+abbrev claims : lts.Claims
+claims = (get-reads.Asked, get-reads.Learnt, wide-reads.Asked, wide-reads.Learnt, put-reads.Asked, put-reads.Learnt)
 
-shared-slice-read-wide-2 : tie.Need-shared-slice-read-wide-2 Inv-loop μ-loop
-shared-slice-read-wide-2 c =
-    let a = c .before .before .before .before .before .before .before .before in
-    omega (arith, entry-below (a .pre .0) (c .before .before .loop .inv), a .pre .0 .parent-room)
+linked : (c : lts.At-loop claims reads.Pre reads.Post Inv-loop μ-loop)
+    → Parents (column distanceField (c .before .before .put .last .0)) (column parentField (c .before .before .put .last .0)) (c .before .before .before .before .before .before .before .args .n)
+linked c =
+    let p = c .before .before in
+    let w = p .before .before in
+    let g = w .before in
+    let a = g .before .before in
+    parents-then _ _ _ _ _ (a .pre .0) (a .pre .1 .0) (w .wide .ensures ∙ g .get .ensures) (p .put .ensures)
 
-cast-path-2 : tie.Need-cast-path-2 Inv-loop μ-loop
-cast-path-2 c =
-    let l = c .before .before .before in
-    let ps = l .before .before .before .before .before .before .pre .0 in
-    omega (arith, parent-below ps (l .loop .inv) (c .before .before .loop-test .taken) _ (c .wide2 .ensures), ps .few)
+get-requires-2 : tie.Need-get-requires-2 Inv-loop μ-loop
+get-requires-2 c κs =
+    let l = c .before .before in
+    let ps = linked l in
+    (omega (arith, there _ ps, entry-below ps (l .loop .inv .tracing), l .loop .inv .size), omega arith)
 
-slice-write-path-2 : tie.Need-slice-write-path-2 Inv-loop μ-loop
-slice-write-path-2 c =
-    let i = c .before .before .before .loop .inv in
-    omega (arith, i .below, i .room, i .size)
+cast-put-2 : tie.Need-cast-put-2 Inv-loop μ-loop
+cast-put-2 c =
+    let g = c .before .before in
+    let turn = g .before .before in
+    let l = turn .before in
+    let ps = linked l in
+    let more = turn .loop-test .taken in
+    omega
+    (arith, parent-below ps (l .loop .inv .tracing) more _ (parent-is _ _ [] _ ps (l .loop .inv) more (c .before .wide2 .ensures ∙ g .get2 .ensures)), ps .few)
+
+put-requires-2 : tie.Need-put-requires-2 Inv-loop μ-loop
+put-requires-2 c κs =
+    let l = c .before .before .before .before .before in
+    let t = l .loop .inv in
+    (omega (arith, t .tracing .below, t .tracing .room, t .size, length-column wayField (l .before .before .put .last .0)), omega arith)
 
 loop-again : tie.Need-loop-again Inv-loop μ-loop
 loop-again c =
-    let l = c .before .before .before in
-    trace-more (l .before .before .before .before .before .before .pre .0) (l .loop .inv) (c .before .before .loop-test .taken) _ (c .wide2 .ensures)
-
-same-length : tie.Need-same-length Inv-loop μ-loop
-same-length c = c .before .loop .inv .size ∙ simp length-set
+    let p = c .before in
+    let w = p .before .before in
+    let g = w .before in
+    let turn = g .before .before in
+    let l = turn .before in
+    traced-more _ _ _ _ (linked l) (l .loop .inv) (turn .loop-test .taken) (w .wide2 .ensures ∙ g .get2 .ensures) (p .put2 .ensures) (p .put2 .kept .0)
 
 returns : tie.Need-returns Inv-loop μ-loop
 returns c =
     let l = c .before in
-    trace-end (l .before .before .before .before .before .before .pre .0) (l .loop .inv) (c .loop-test .left) _ (l .before .wide .ensures)
+    let p = l .before .before in
+    let w = p .before .before in
+    let g = w .before in
+    let a = g .before .before in (
+      traced-last _ _ _ _ _ (a .pre .0) (a .pre .1 .0) (w .wide .ensures ∙ g .get .ensures) (p .put .ensures) _
+          (trace-end (linked l) (l .loop .inv .tracing) (c .loop-test .left) _ refl),
+      λ g n. l .loop .inv .only g n ∙ p .put .ensures .other g n,
+    )
 
 pub trace-spec : {M : Type 1} → statement M
 trace-spec =
@@ -60,21 +113,17 @@ trace-spec =
     (tie.spec
     Inv-loop
     μ-loop
-    (λ c. search needs)
-    (λ c. search needs)
+    get-requires
     (λ c κs. search needs)
     (λ c. search needs)
-    (λ c. search needs)
-    (λ c. search needs)
+    put-requires
     loop-holds
-    mul-wide-2
-    shared-slice-read-wide-2
+    get-requires-2
     (λ c κs. search needs)
     (λ c. search needs)
-    cast-path-2
-    (λ c. search needs)
-    slice-write-path-2
+    cast-put-2
+    put-requires-2
     (λ c. search needs)
     loop-again
-    same-length
+    (λ c. search needs)
     returns)

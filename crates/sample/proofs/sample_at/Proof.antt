@@ -1,81 +1,89 @@
 -- `sample_at` meets its contract: the entry gives the distance, and the way to it the records.
 use borrow.Author.Needs.{needs}
-use mathlib.Core.Path.{refl}
+use mathlib.Core.Path.{refl, _∙_}
 use native.Mathlib.Omega.{arith}
 use denote.Ref.{now}
 use mir.Facts.{toZ-ofZ}
-use Rattle.sample.proofs.Picking.{tabled-at, nearest-below, nearest-room, way-leads, way-ends-there, short-picked, taken-picked}
+use Rattle.cells.specs.Columns.{distanceField}
+use Rattle.cells.proofs.Fields.{length-column}
+use Rattle.sample.proofs.Picking.{tabled-after, nearest-after, traced-after, far-after, way-long, tabled-at, nearest-below, nearest-room, way-leads, way-ends-there, short-picked, taken-picked}
 use Rattle.sample.proofs.sample_at.Statement.{statement}
 use Rattle.sample.proofs.sample_at.Tie as tie
 
-mul-wide : tie.Need-mul-wide
-mul-wide c =
-    let b = c .before .before .before .before .before in
+get-requires : tie.Need-get-requires
+get-requires c κs =
+    let b = c .before in
     let l = nearest-below (b .pre .2) (b .args .exit) (b .args .k) (b .pre .3) in
-    let m = b .pre .2 .walkable .distance-room in
-    search needs
-
-shared-slice-read-wide : tie.Need-shared-slice-read-wide
-shared-slice-read-wide c =
-    let b = c .before .before .before .before .before .before in
-    let l = nearest-below (b .pre .2) (b .args .exit) (b .args .k) (b .pre .3) in
-    let m = b .pre .2 .walkable .distance-room in
-    search needs
+    (omega (arith, l, b .pre .2 .walkable .distance-room, length-column distanceField (now (b .args .cells))), omega arith)
 
 returns : tie.Need-returns
 returns c = λ flow i t h.
-    let b = c .before .before .before .before .before .before .before .before .before in
-    short-picked t (b .args .exit) (b .args .k) h (c .before .before .wide .ensures) (now (b .args .row)) _ (omega arith) (c .without .ensures)
+    let w = c .before .before in
+    let g = w .before in
+    let b = g .before .before in
+    short-picked t (b .args .exit) (b .args .k) h (w .wide .ensures ∙ g .get .ensures) (b .args .tapes) (now (b .args .row)) _ (omega arith) (c .without .ensures)
 
 trace-requires : tie.Need-trace-requires
 trace-requires c κs =
-    let b = c .before .before .before .before .before .before .before .before .before in
+    let b = c .before .before .before .before .before in
     let t = b .pre .2 in
     (t .parents, (nearest-below t (b .args .exit) (b .args .k) (b .pre .3), nearest-room t (b .args .exit) (b .args .k) (b .pre .3)))
 
 write-sample-requires : tie.Need-write-sample-requires
 write-sample-requires c κs =
-    let b = c .before .before .before .before .before .before .before .before .before .before .before .before .before .before in
+    let way = c .before .before .before in
+    let w = way .before .before .before in
+    let g = w .before in
+    let b = g .before .before in
     let a = b .args in
-    let t = tabled-at (b .pre .2) (toZ-ofZ (b .fits .lo)) (toZ-ofZ (b .fits .hi)) in
-    let far = c .before .before .before .before .before .before .before .wide .ensures in
-    let way = c .before .before .before .before .trace in
-    let long = way .kept .1 .1 .0 in (
-      (b .pre .0, way-leads t (a .exit) (a .k) (b .pre .3) far long (way .ensures), way-ends-there t (a .exit) (a .k) (b .pre .3) far long (way .ensures)),
+    let only = way .trace .ensures .1 in
+    let t = tabled-after _ _ only (tabled-at (b .pre .2) (toZ-ofZ (b .fits .lo)) (toZ-ofZ (b .fits .hi))) in
+    let h = nearest-after _ _ only (a .w) (a .n) (a .ops) (b .pre .1) (a .exit) (a .k) (b .pre .3) in
+    let far = far-after _ _ only (a .k) (w .wide .ensures ∙ g .get .ensures) in
+    let long = way-long _ _ only (way .trace .kept .0) in
+    let traced = traced-after _ _ only _ _ _ (way .trace .ensures .0) in (
+      (b .pre .0, way-leads t (a .exit) (a .k) h far long traced, way-ends-there t (a .exit) (a .k) h far long traced),
       omega arith,
     )
 
 add-distance : tie.Need-add-t16
 add-distance c =
-    let b = c .before .before .before .before .before .before .before .before .before .before .before .before .before .before .before .before in
+    let way = c .before .before .before .before .before in
+    let w = way .before .before .before in
+    let g = w .before in
+    let b = g .before .before in
     let t = b .pre .2 in
     let l = nearest-below t (b .args .exit) (b .args .k) (b .pre .3) in
-    let far = c .before .before .before .before .before .before .before .before .before .wide .ensures in
+    let far = w .wide .ensures ∙ g .get .ensures in
     let near = t .walkable .near (b .args .k) l in
     let few = t .walkable .few in
     search needs
 
 returns-2 : tie.Need-returns-2
 returns-2 c = λ flow i g h.
-    let b = c .before .before .before .before .before .before .before .before .before .before .before .before .before .before .before .before in
+    let way = c .before .before .before .before .before in
+    let w = way .before .before .before in
+    let got = w .before in
+    let b = got .before .before in
     let a = b .args in
-    let t = tabled-at g (toZ-ofZ (b .fits .lo)) (toZ-ofZ (b .fits .hi)) in
-    let far = c .before .before .before .before .before .before .before .before .before .wide .ensures in
-    let way = c .before .before .before .before .before .before .trace in
-    let long = way .kept .1 .1 .0 in
-    taken-picked t (a .exit) (a .k) h far long (way .ensures) _
-    (c .before .write-sample .ensures flow (way-leads t (a .exit) (a .k) h far long (way .ensures))
-    (way-ends-there t (a .exit) (a .k) h far long (way .ensures)))
-    refl refl
+    let only = way .trace .ensures .1 in
+    let t = tabled-after _ _ only (tabled-at g (toZ-ofZ (b .fits .lo)) (toZ-ofZ (b .fits .hi))) in
+    let h₁ = nearest-after _ _ only (a .w) (a .n) (a .ops) i (a .exit) (a .k) h in
+    let far = far-after _ _ only (a .k) (w .wide .ensures ∙ got .get .ensures) in
+    let long = way-long _ _ only (way .trace .kept .0) in
+    let traced = traced-after _ _ only _ _ _ (way .trace .ensures .0) in
+    taken-picked t (a .exit) (a .k) h₁ far long traced _
+    (c .before .write-sample .ensures flow (way-leads t (a .exit) (a .k) h₁ far long traced) (way-ends-there t (a .exit) (a .k) h₁ far long traced))
+    refl refl refl
 
 pub sample-at-spec : {M : Type 1} → statement M
 sample-at-spec =
     tie.close
     (tie.spec
-    mul-wide
-    shared-slice-read-wide
+    get-requires
     (λ c κs. search needs)
     (λ c κs. search needs)
+    (λ c. search needs)
     returns
     trace-requires
     write-sample-requires

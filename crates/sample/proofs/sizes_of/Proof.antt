@@ -1,5 +1,6 @@
 -- `sizes_of` meets its contract.
 use denote.Ref.{now}
+use Rattle.cells.specs.Columns.{placeField, wayField, column, wordColumn}
 use Rattle.sample.proofs.Counts.{reads-below, sizes-three}
 use borrow.Author.Needs.{needs}
 use Rattle.sample.proofs.sizes_of.Statement.{statement}
@@ -7,14 +8,14 @@ use Rattle.sample.proofs.sizes_of.Tie as tie
 
 counted-requires : tie.Need-counted-requires
 counted-requires c κs =
-    let b = c .before .before .before in
+    let b = c .before in
     let a = b .args in
-    reads-below (a .ops) (now (a .places)) (now (a .path)) (a .steps) (b .pre .few) (c .reads .result) (c .reads .ensures)
+    reads-below (a .ops) (wordColumn placeField (now (a .cells))) (column wayField (now (a .cells))) (a .steps) (b .pre .few) (c .reads .result) (c .reads .ensures)
 
 returns : tie.Need-returns
 returns c =
-    let a = c .before .before .before .before .before .before .before .args in
-    sizes-three (a .ops) (now (a .places)) (now (a .path)) (a .steps) (a .op) (a .exit) _ _
+    let a = c .before .before .before .before .before .args in
+    sizes-three (a .ops) (wordColumn placeField (now (a .cells))) (column wayField (now (a .cells))) (a .steps) (a .op) (a .exit) _ _
     (c .before .before .before .before .reads .ensures) (c .before .before .before .counted .ensures)
     (c .before .before .wide .ensures) (c .before .wide2 .ensures) (c .wide3 .ensures)
 

@@ -1,27 +1,18 @@
 -- `words_on` meets its contract.
-use mathlib.Core.Path.{ap}
-use Prim.Native.Nat.{ℕ}
-use lib.ListN.{getD}
+use mathlib.Core.Path.{ap, _∙_}
 use denote.Ref.{now}
-use Rattle.configuration.specs.Place.{words}
+use Rattle.cells.specs.Columns.{rowsOf}
+use Rattle.cells.specs.Entries.{entriesOf}
+use Rattle.table.specs.Table.{wordsAt}
 use borrow.Author.Needs.{needs}
 use Rattle.sample.proofs.words_on.Statement.{statement}
 use Rattle.sample.proofs.words_on.Tie as tie
 
 returns : tie.Need-returns
 returns c =
-    let a = c .before .before .before .before .before .before .before .args in
-    ap (λ (k : ℕ). words (getD (now (a .places)) k 0) (getD (now (a .patterns)) k 0)) (c .before .before .wide .ensures)
+    let w = c .before in
+    let g = w .before in
+    c .words-at .ensures ∙ ap (wordsAt (entriesOf (rowsOf (now (g .before .args .cells))))) (w .wide .ensures ∙ g .get .ensures)
 
 pub words-on-spec : {M : Type 1} → statement M
-words-on-spec =
-    tie.close
-    (tie.spec
-    (λ c. search needs)
-    (λ c. search needs)
-    (λ c κs. search needs)
-    (λ c. search needs)
-    (λ c. search needs)
-    (λ c. search needs)
-    (λ c. search needs)
-    returns)
+words-on-spec = tie.close (tie.spec (λ c κs. search needs) (λ c κs. search needs) (λ c κs. search needs) returns)

@@ -6,23 +6,24 @@ use denote.Ref.{now}
 use lib.ListN.{length}
 use mir.Facts.{toZ-ofZ}
 use Rattle.table.specs.Passes.{Stands}
-use Rattle.sample.specs.Sampling.{Course, course, Leads, Roomy, Following}
+use Rattle.sample.specs.Sampling.{Course, courseIn, Leads, Roomy, Following}
 use Rattle.sample.proofs.Numbers as numbers
 use Rattle.sample.proofs.Counts.{op-by-place}
 use Rattle.sample.proofs.Ending.{end-roomy, end-asks, end-written}
 use borrow.Author.Needs.{needs}
+use Rattle.table.proofs.Reading.{on-way}
 use Rattle.sample.proofs.write_sample.Statement.{statement}
 use Rattle.sample.proofs.write_sample.Tie as tie
 
 place-on-requires : tie.Need-place-on-requires
 place-on-requires c κs =
-    let b = c .before .before .before in
+    let b = c in
     let p = b .pre .0 .1 .passable in
-    (p .room, p .entry (b .args .steps) (omega arith))
+    on-way _ p (b .args .steps) (omega arith)
 
 index-requires : tie.Need-index-requires
 index-requires c κs =
-    let b = c .before .before .before .before in
+    let b = c .before in
     subst Stands (sym (c .place-on .ensures)) (b .pre .0 .1 .passable .stands (b .args .steps) (omega arith))
 
 array-copy-out-op : tie.Need-array-copy-out-op
@@ -30,9 +31,9 @@ array-copy-out-op c = c .index .ensures .1
 
 write-steps-requires : tie.Need-write-steps-requires
 write-steps-requires c κs =
-    let b = c .before .before .before .before .before .before .before .before in
+    let b = c .before .before .before .before .before in
     let a = b .args in
-    let way = course (now (a .places)) (now (a .patterns)) (now (a .path)) (a .steps) (a .t5) (a .w) in
+    let way = courseIn (now (a .cells)) (a .steps) (a .t3) (a .w) in
     let same : way (numbers.back (a .lo)) (numbers.back (a .hi)) ≡ way (a .lo) (a .hi)
     = λ i. way (toZ-ofZ (b .fits .lo) i) (toZ-ofZ (b .fits .hi) i) in
     let is = op-by-place (b .pre .0 .1) (a .steps) _ (c .before .before .before .before .place-on .ensures) (c .before .before .before .index .ensures .0) in
@@ -45,9 +46,9 @@ write-steps-requires c κs =
 
 last-read-requires : tie.Need-last-read-requires
 last-read-requires c κs =
-    let b = c .before .before .before .before .before .before .before .before .before .before .before in
+    let b = c .before .before .before .before .before .before .before .before in
     let a = b .args in
-    let way = course (now (a .places)) (now (a .patterns)) (now (a .path)) (a .steps) (a .t5) (a .w) in
+    let way = courseIn (now (a .cells)) (a .steps) (a .t3) (a .w) in
     let same : way (numbers.back (a .lo)) (numbers.back (a .hi)) ≡ way (a .lo) (a .hi)
     = λ i. way (toZ-ofZ (b .fits .lo) i) (toZ-ofZ (b .fits .hi) i) in
     let is = op-by-place (b .pre .0 .1) (a .steps) _ (c .before .before .before .before .before .before .before .place-on .ensures) (c .before .before .before .before .before .before .index .ensures .0) in
@@ -55,15 +56,15 @@ last-read-requires c κs =
     let q = b .pre .0 .1 in
     let sizes = c .before .before .before .before .sizes-of in
     let w = c .before .before .write-steps in
-    let f = subst (λ (k : Course). Following k flow (sizes .result) (now (a .row)) (a .steps) (w .result) (w .last .1 .1 .1 .1 .1 .1 .1 .1 .1 .0)) same
+    let f = subst (λ (k : Course). Following k flow (sizes .result) (now (a .row)) (a .steps) (w .result) (w .last .1 .1 .1 .1 .1 .1 .1 .0)) same
     (w .ensures flow (subst (λ (k : Course). Leads k flow) (sym same) q)) in
     rw (toZ-ofZ (b .fits .lo), toZ-ofZ (b .fits .hi)) (end-asks q (a .exit) is (sizes .ensures) (b .pre .0 .2) f (b .pre .1))
 
 returns : tie.Need-returns
 returns c =
-    let b = c .before .before .before .before .before .before .before .before .before .before .before .before .before in
+    let b = c .before .before .before .before .before .before .before .before .before .before in
     let a = b .args in
-    let way = course (now (a .places)) (now (a .patterns)) (now (a .path)) (a .steps) (a .t5) (a .w) in
+    let way = courseIn (now (a .cells)) (a .steps) (a .t3) (a .w) in
     let same : way (numbers.back (a .lo)) (numbers.back (a .hi)) ≡ way (a .lo) (a .hi)
     = λ i. way (toZ-ofZ (b .fits .lo) i) (toZ-ofZ (b .fits .hi) i) in
     let is = op-by-place (b .pre .0 .1) (a .steps) _ (c .before .before .before .before .before .before .before .before .before .place-on .ensures) (c .before .before .before .before .before .before .before .before .index .ensures .0) in
@@ -71,7 +72,7 @@ returns c =
     let w = c .before .before .before .before .write-steps in
     let e = rw (toZ-ofZ (b .fits .lo), toZ-ofZ (b .fits .hi)) at (c .before .last-read .ensures) in
     λ flow q d.
-    let f = subst (λ (k : Course). Following k flow (sizes .result) (now (a .row)) (a .steps) (w .result) (w .last .1 .1 .1 .1 .1 .1 .1 .1 .1 .0)) same
+    let f = subst (λ (k : Course). Following k flow (sizes .result) (now (a .row)) (a .steps) (w .result) (w .last .1 .1 .1 .1 .1 .1 .1 .0)) same
     (w .ensures flow (subst (λ (k : Course). Leads k flow) (sym same) q)) in
     end-written q (a .exit) is (sizes .ensures) d f (b .pre .1) e
 

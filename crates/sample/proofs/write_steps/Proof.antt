@@ -5,6 +5,7 @@ use Prim.Native.Nat.{ℕ, _+_, _-_, _<_, _≤_}
 use native.Mathlib.Omega.{arith}
 use denote.Ref.{now}
 use lib.ListN.{length}
+use Rattle.table.proofs.Reading.{on-way}
 use mir.Syntax.{w32}
 use mir.Val.{toZ}
 use mir.Facts.{toZ-ofZ}
@@ -12,7 +13,7 @@ use Rattle.model.specs.Language.{Flow}
 use Rattle.configuration.specs.declared.Words.{Words}
 use Rattle.table.specs.Passes.{Stands}
 use Rattle.tapes.specs.Reading.{firstWalk}
-use Rattle.sample.specs.Sampling.{Course, course, Leads, Roomy, Following}
+use Rattle.sample.specs.Sampling.{Course, courseIn, Leads, Roomy, Following}
 use Rattle.sample.proofs.Numbers as numbers
 use Rattle.sample.proofs.Counts.{op-by-words}
 use Rattle.sample.proofs.Stepping.{following-first, loop-asks, loop-follows}
@@ -20,34 +21,34 @@ use Rattle.sample.proofs.write_steps.Statement.{statement}
 use Rattle.sample.proofs.write_steps.Tie as tie
 
 abbrev Inv-loop : tie.InvT-loop
-Inv-loop places patterns path steps w lo hi row₀ ops walk₀ t₀ row walk t =
+Inv-loop cells steps w lo hi row₀ ops walk₀ t₀ row walk t =
     (t ≤ steps) × (length row ≡ length row₀)
-    × ((flow : Flow) (sizes : List ℕ) → Leads (course places patterns path steps ops w (toZ w32 lo) (toZ w32 hi)) flow
-    → Roomy (course places patterns path steps ops w (toZ w32 lo) (toZ w32 hi)) sizes (length row₀) → walk₀ ≡ firstWalk sizes
-    → Following (course places patterns path steps ops w (toZ w32 lo) (toZ w32 hi)) flow sizes row₀ t walk row)
+    × ((flow : Flow) (sizes : List ℕ) → Leads (courseIn cells steps ops w (toZ w32 lo) (toZ w32 hi)) flow
+    → Roomy (courseIn cells steps ops w (toZ w32 lo) (toZ w32 hi)) sizes (length row₀) → walk₀ ≡ firstWalk sizes
+    → Following (courseIn cells steps ops w (toZ w32 lo) (toZ w32 hi)) flow sizes row₀ t walk row)
 
 abbrev μ-loop : tie.MeasureT-loop
-μ-loop places patterns path steps w lo hi row₀ ops walk₀ t₀ row walk t = steps - t
+μ-loop cells steps w lo hi row₀ ops walk₀ t₀ row walk t = steps - t
 
 first-walk-requires : tie.Need-first-walk-requires Inv-loop μ-loop
-first-walk-requires c κs = let b = c .before .before .before in let few = b .pre .0 .1 .passable .few in omega (arith, b .pre .1 .few)
+first-walk-requires c κs = let b = c in let few = b .pre .0 .1 .passable .few in omega (arith, b .pre .1 .few)
 
 loop-holds : tie.Need-loop-holds Inv-loop μ-loop
 loop-holds c =
-    let a = c .before .before .before .before .args in
+    let a = c .before .args in
     (omega arith, refl, λ flow sizes q roomy e. following-first q roomy (now (a .row)) (roomy .long) e)
 
 words-on-requires : tie.Need-words-on-requires Inv-loop μ-loop
 words-on-requires c κs =
-    let b = c .before .before .before .before .before .before in
+    let b = c .before .before .before in
     let q = b .pre .0 .1 in
     let t = c .before .loop .t in
     let lt : t < b .args .steps = c .loop-test .taken in
-    (omega (arith, q .passable .room), (q .passable .entry t (omega arith), q .patterned t (omega arith)))
+    on-way (now (b .args .cells)) (q .passable) t (omega arith)
 
 index-requires : tie.Need-index-requires Inv-loop μ-loop
 index-requires c κs =
-    let b = c .before .before .before .before .before .before .before in
+    let b = c .before .before .before .before in
     let t = c .before .before .loop .t in
     let lt : t < b .args .steps = c .before .loop-test .taken in
     subst (λ (x : Words). Stands (x .place)) (sym (c .words-on .ensures)) (b .pre .0 .1 .passable .stands t (omega arith))
@@ -60,26 +61,26 @@ array-copy-out-op c = c .index .ensures .1
 
 add-t : tie.Need-add-t Inv-loop μ-loop
 add-t c =
-    let b = c .before .before .before .before .before .before .before .before .before in
+    let b = c .before .before .before .before .before .before in
     let lt : c .before .before .before .before .loop .t < b .args .steps = c .before .before .before .loop-test .taken in
     omega (arith, b .pre .0 .1 .passable .few)
 
 words-on-requires-2 : tie.Need-words-on-requires-2 Inv-loop μ-loop
 words-on-requires-2 c κs =
-    let b = c .before .before .before .before .before .before .before .before .before in
+    let b = c .before .before .before .before .before .before in
     let q = b .pre .0 .1 in
     let t = c .before .before .before .before .loop .t in
     let lt : t < b .args .steps = c .before .before .before .loop-test .taken in
-    (omega (arith, q .passable .room), (q .passable .entry (t + 1) (omega arith), q .patterned (t + 1) (omega arith)))
+    on-way (now (b .args .cells)) (q .passable) (t + 1) (omega arith)
 
 step-requires : tie.Need-step-requires Inv-loop μ-loop
 step-requires c κs =
     let l = c .before .before .before .before .before .before .loop in
-    let b = c .before .before .before .before .before .before .before .before .before .before .before in
+    let b = c .before .before .before .before .before .before .before .before in
     let a = b .args in
     let lo = numbers.back (a .lo) in
     let hi = numbers.back (a .hi) in
-    let k = course (now (a .places)) (now (a .patterns)) (now (a .path)) (a .steps) (a .t5) (a .w) lo hi in
+    let k = courseIn (now (a .cells)) (a .steps) (a .t3) (a .w) lo hi in
     let flow = b .pre .0 .0 in
     let q : Leads k flow = rw (toZ-ofZ (b .fits .lo), toZ-ofZ (b .fits .hi)) (b .pre .0 .1) in
     let roomy : Roomy k (a .sizes) (length (now (a .row))) = rw (toZ-ofZ (b .fits .lo), toZ-ofZ (b .fits .hi)) (b .pre .1) in
@@ -97,11 +98,11 @@ loop-less c =
 loop-again : tie.Need-loop-again Inv-loop μ-loop
 loop-again c =
     let l = c .before .before .before .before .before .before .before .before .loop in
-    let b = c .before .before .before .before .before .before .before .before .before .before .before .before .before in
+    let b = c .before .before .before .before .before .before .before .before .before .before in
     let a = b .args in
     let lo = numbers.back (a .lo) in
     let hi = numbers.back (a .hi) in
-    let k = course (now (a .places)) (now (a .patterns)) (now (a .path)) (a .steps) (a .t5) (a .w) lo hi in
+    let k = courseIn (now (a .cells)) (a .steps) (a .t3) (a .w) lo hi in
     let flow₀ = b .pre .0 .0 in
     let q₀ : Leads k flow₀ = rw (toZ-ofZ (b .fits .lo), toZ-ofZ (b .fits .hi)) (b .pre .0 .1) in
     let roomy : Roomy k (a .sizes) (length (now (a .row))) = rw (toZ-ofZ (b .fits .lo), toZ-ofZ (b .fits .hi)) (b .pre .1) in
@@ -121,10 +122,10 @@ same-length c = c .before .loop .inv .1
 returns : tie.Need-returns Inv-loop μ-loop
 returns c =
     let l = c .before .loop in
-    let b = c .before .before .before .before .before .before in
+    let b = c .before .before .before in
     let a = b .args in
     let done : l .t ≡ a .steps = omega (arith, l .inv .0, c .loop-test .left) in
-    let along = course (now (a .places)) (now (a .patterns)) (now (a .path)) (a .steps) (a .t5) (a .w) in
+    let along = courseIn (now (a .cells)) (a .steps) (a .t3) (a .w) in
     let same : along (numbers.back (a .lo)) (numbers.back (a .hi)) ≡ along (a .lo) (a .hi)
     = λ i. along (toZ-ofZ (b .fits .lo) i) (toZ-ofZ (b .fits .hi) i) in
     λ flow q. subst (λ (k : Course). Following k flow (a .sizes) (now (a .row)) (a .steps) (l .walk) (l .row)) same

@@ -1,19 +1,34 @@
 -- `expand` meets its contract: the fan, and then the step that reads no record, are all that the entry leads to.
-use mathlib.Core.Path.{refl, _∙_}
+use mathlib.Core.Path.{_≡_, sym, ap, subst}
+use Prim.Native.Nat.{ℕ, _+_}
+use native.Mathlib.Omega.{arith}
+use denote.Ref.{now}
 use borrow.Author.Needs.{needs}
 use Rattle.configuration.proofs.next.Reads as next-reads
+use Rattle.cells.specs.Columns.{rowsOf}
+use Rattle.cells.specs.Entries.{entriesOf, distanceOf}
+use Rattle.cells.proofs.Entering.{room}
+use Rattle.cells.proofs.get.Reads as get-reads
+use Rattle.table.specs.Table.{wordsAt}
+use Rattle.table.proofs.words_at.Reads as words-at-reads
+use Rattle.growth.specs.Fan.{Fine}
 use Rattle.growth.proofs.Fanning.{fan-answer, next-ready, next-answer}
 use Rattle.growth.proofs.fan.Reads as fan-reads
 use Rattle.growth.proofs.visit.Reads as visit-reads
 use Rattle.growth.proofs.after_visit.Reads as after-visit-reads
+use Rattle.search.proofs.Exploring.{expanded-by}
 use Rattle.search.proofs.expand.Reads as reads
 use Rattle.search.proofs.expand.Lts as lts
 use Rattle.search.proofs.expand.Statement.{statement}
 use Rattle.search.proofs.expand.Tie as tie
 
--- ---- the way: the start, the fan, and the visit of the next words
+-- ---- the way: the start, the words and the distance, and the fan
 abbrev claims : lts.Claims
 claims = (
+  words-at-reads.Asked,
+  words-at-reads.Learnt,
+  get-reads.Asked,
+  get-reads.Learnt,
   fan-reads.Asked,
   fan-reads.Learnt,
   next-reads.Asked,
@@ -24,75 +39,72 @@ claims = (
   after-visit-reads.Learnt,
 )
 
-abbrev start : lts.After-fan claims reads.Pre reads.Post → lts.Start claims reads.Pre reads.Post
-start c = c .before .before .before .before .before .before .before .before .before .before .before .before .before .before .before .before .before .before
+abbrev start : lts.After-get claims reads.Pre reads.Post → lts.Start claims reads.Pre reads.Post
+start c = c .before .before .before .before
 
-abbrev visited : lts.After-after-visit claims reads.Pre reads.Post → lts.After-visit claims reads.Pre reads.Post
-visited c = c .before .before .before .before .before .before .before .before .before .before .before .before .before
+same : (c : lts.After-get claims reads.Pre reads.Post) → c .before .before .words-at .result ≡ wordsAt (entriesOf (rowsOf (now (start c .args .cells)))) (start c .args .k)
+same c = c .before .before .words-at .ensures
 
-abbrev fanned : lts.After-visit claims reads.Pre reads.Post → lts.After-fan claims reads.Pre reads.Post
-fanned c = c .before .before .before .before .before .before .before .before .before .before .before .before .before .before .before .before .before .before .before .before .before .before .before .before .before
+far : (c : lts.After-get claims reads.Pre reads.Post) → c .get .result + 1 ≡ distanceOf (entriesOf (rowsOf (now (start c .args .cells)))) (start c .args .k) + 1
+far c = ap (λ (d : ℕ). d + 1) (c .get .ensures)
+
+fine : (c : lts.After-get claims reads.Pre reads.Post) → Fine (start c .args .w) (start c .args .op) (c .before .before .words-at .result)
+fine c = subst (Fine (start c .args .w) (start c .args .op)) (sym (same c)) (start c .pre .1 .1 .0)
 
 -- ---- the needs
+words-at-requires : tie.Need-words-at-requires
+words-at-requires c κs =
+    let p = c .before .pre in
+    omega (arith, room _ (p .0 .filled), p .0 .filled .index .within, p .1 .0)
+
+get-requires : tie.Need-get-requires
+get-requires c κs =
+    let p = c .before .before .before .pre in
+    (omega (arith, room _ (p .0 .filled), p .0 .filled .index .within, p .1 .0), omega arith)
+
 fan-requires : tie.Need-fan-requires
 fan-requires c κs =
-    let start = c .before .before .before .before .before .before .before .before .before .before .before .before .before .before .before .before .before in
-    (start .pre .0, (start .pre .1 .0, start .pre .1 .1 .0))
+    let g = c .before in
+    (start g .pre .0, (start g .pre .1 .0, fine g))
 
 returns : tie.Need-returns
 returns c =
-    let f = c .before .before .before .before .before .before .before .before .before .before .before .before .before .before .before .before in
-    fan-answer (start f .pre .1 .1 .0) _ _ _ _ _ _ _ (f .fan .ensures) (c .enum-told .given .1) _
-
-next-requires : tie.Need-next-requires
-next-requires c κs =
-    let f = c .before .before .before .before .before .before .before .before .before .before .before .before .before .before .before .before .before in
-    start f .pre .1 .1 .0 .width
+    let f = c .before .before .before in
+    let g = f .before .before in
+    expanded-by _ _ _ _ _ _ _ _ (same g) (far g) (fan-answer (fine g) _ _ _ _ _ _ _ (f .fan .ensures) (c .enum-told .given .1) _)
 
 visit-requires : tie.Need-visit-requires
 visit-requires c κs =
-    let grew = c .before .before .before .before .before .before .before .before in
-    let f = grew .before .before .before .before .before .before .before .before .before .before .before .before .before .before .before .before in
-    next-ready (start f .pre .1 .1 .0) _ _ _ _ _ _ _ (f .fan .ensures) (grew .g .given .1) (start f .pre .1 .0)
+    let grew = c .before .before .before in
+    let f = grew .before .before .before in
+    let g = f .before .before in
+    next-ready (fine g) _ _ _ _ _ _ _ (f .fan .ensures) (grew .g .given .1) (start g .pre .1 .0)
 
 returns-2 : tie.Need-returns-2
 returns-2 c =
-    let v = visited c in
-    let f = fanned v in
-    let stepped = v .before .before .before .before .before .before .before in
-    next-answer (start f .pre .1 .1 .0) _ _ _ _ _ _ _ (f .fan .ensures) (stepped .before .before .g .given .1)
-    (stepped .next .ensures) _ refl _ (v .visit .ensures) (c .after-visit .ensures)
+    let v = c .before .before in
+    let stepped = v .before .before in
+    let grew = stepped .before .before in
+    let f = grew .before .before .before in
+    let g = f .before .before in
+    expanded-by _ _ _ _ _ _ _ _ (same g) (far g)
+    (next-answer (fine g) _ _ _ _ _ _ _ (f .fan .ensures) (grew .g .given .1) (stepped .next .ensures) _ _
+    (v .visit .ensures .1 .0) (v .visit .ensures .0) (c .after-visit .ensures))
 
 pub expand-spec : {M : Type 1} → statement M
 expand-spec =
     tie.close
     (tie.spec
-    (λ c. search needs)
-    (λ c. search needs)
-    (λ c. search needs)
-    (λ c. search needs)
-    (λ c. search needs)
-    (λ c. search needs)
+    words-at-requires
+    get-requires
     (λ c. search needs)
     fan-requires
-    (λ c. search)
-    (λ c. search)
-    (λ c. search)
-    (λ c. search)
-    (λ c. search)
-    (λ c. search)
-    (λ c. search)
-    (λ c. search)
-    (λ c. search)
+    (λ c. search needs)
+    (λ c. search needs)
+    (λ c. search needs)
     returns
-    next-requires
+    (λ c κs. fine (c .before .before .before .before .before .before) .width)
     visit-requires
-    (λ c κs. search)
-    (λ c. visited c .visit .kept .0 ∙ fanned (visited c) .fan .kept .0)
-    (λ c. visited c .visit .kept .1 .0 ∙ fanned (visited c) .fan .kept .1 .0)
-    (λ c. visited c .visit .kept .1 .1 .0 ∙ fanned (visited c) .fan .kept .1 .1 .0)
-    (λ c. visited c .visit .kept .1 .1 .1 .0 ∙ fanned (visited c) .fan .kept .1 .1 .1 .0)
-    (λ c. visited c .visit .kept .1 .1 .1 .1 .0 ∙ fanned (visited c) .fan .kept .1 .1 .1 .1 .0)
-    (λ c. visited c .visit .kept .1 .1 .1 .1 .1 .0 ∙ fanned (visited c) .fan .kept .1 .1 .1 .1 .1 .0)
-    (λ c. search)
+    (λ c κs. search needs)
+    (λ c. search needs)
     returns-2)

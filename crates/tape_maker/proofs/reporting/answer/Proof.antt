@@ -1,29 +1,35 @@
--- `tape_maker::reporting::answer` meets its contract, by what was found.
+-- `tape_maker::reporting::answer` meets its contract: a text that is refused, and one that is legal.
 use borrow.Author.Needs.{needs}
-use Rattle.tape_maker.proofs.ReportLaws.{done-answered, full-answered}
+use Rattle.tape_maker.proofs.RunLaws.{Read, read-fault, read-ok}
+use Rattle.tape_maker.proofs.ReportLaws.{report-refused, report-searched}
+use denote.Ref.{now}
 use Rattle.tape_maker.proofs.reporting.answer.Statement.{statement}
 use Rattle.tape_maker.proofs.reporting.answer.Tie as tie
 
-exits-requires : tie.Need-exits-requires
-exits-requires c κs = let h = c .before .before .before .before .before .before .before .pre _ (c .before .before .found .given .1) in (h .1, h .2)
+-- the text is legal
+legal : (c : tie.After-enum-told) → let read = c .before .before .before in Read (now (read .before .before .args .text)) (read .read .result .flow)
+legal c = read-ok _ _ (c .before .before .before .read .ensures) (c .enum-told .given .1)
 
-given-requires : tie.Need-given-requires
-given-requires c κs = c .before .before .before .before .before .before .before .before .before .pre _ (c .before .before .before .before .found .given .1) .0
+report-flow-requires : tie.Need-report-flow-requires
+report-flow-requires c κs = let l = legal (c .before) in (l .legal, l .few)
 
 returns : tie.Need-returns
-returns c = done-answered _ _ _ _ _ (c .before .before .before .before .before .found .given .1) _ (c .before .before .exits .ensures) (c .given .ensures)
+returns c =
+    let answer = c .before .before in
+    report-refused _ _ (read-fault _ _ _ (answer .before .before .before .read .ensures) (answer .answer .given .1)) (c .refused .ensures)
 
 returns-2 : tie.Need-returns-2
-returns-2 c = full-answered _ _ _ _ _ (c .before .enum-told .given .1) (c .refused .ensures)
+returns-2 c = let made = c .before in report-searched _ _ (legal (made .before .before) .read) (made .report-flow .ensures)
 
 pub answer-spec : {M : Type 1} → statement M
 answer-spec =
     tie.close
     (tie.spec
-    (λ c. search needs)
-    exits-requires
-    given-requires
+    (λ c κs. search needs)
     (λ c. search needs)
     (λ c κs. search needs)
+    (λ c. search needs)
+    report-flow-requires
     returns
+    (λ c. search needs)
     returns-2)

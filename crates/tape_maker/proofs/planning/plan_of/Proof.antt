@@ -1,0 +1,58 @@
+-- `tape_maker::planning::plan_of` meets its contract: what the flow is searched by is prepared from it.
+use mathlib.Core.Path.{_≡_, ap, ap₂, _∙_, subst, subst⁻¹}
+use Prim.Native.Nat.{_<_}
+use borrow.Author.Needs.{needs}
+use mir.Syntax.{w32}
+use mir.Val.{SFits, toZ, ofZ}
+use mir.Facts.{toZ-ofZ}
+use lib.IntN.{ℤ, pos}
+use Rattle.model.specs.Language.{C1, C2}
+use Rattle.flow.specs.Code.{flowOf}
+use Rattle.configuration.specs.Op.{offset, opOf, widthOf}
+use Rattle.configuration.specs.Pattern.{lane}
+use Rattle.configuration.specs.Step.{startOf}
+use Rattle.configuration.proofs.Fitting.{fit-legal}
+use Rattle.configuration.proofs.Reaches.{start-fits}
+use Rattle.table.specs.Passes.{blank}
+use Rattle.tape_maker.specs.Inner.{Each}
+use Rattle.tape_maker.proofs.ReportLaws.{rows-prepared}
+use Rattle.tape_maker.proofs.planning.plan_of.Statement.{statement}
+use Rattle.tape_maker.proofs.planning.plan_of.Tie as tie
+
+-- the least and the greatest constant, as they are passed on
+lo-is : (c : tie.After-width) → toZ w32 (ofZ w32 (c .before .before .before .before .before .range-of .result .lo)) ≡ C1 (flowOf (c .before .before .before .before .before .before .args .flow))
+lo-is c = let f : SFits w32 (c .before .before .before .before .before .range-of .result .lo) = search needs in toZ-ofZ f ∙ c .before .before .before .before .before .range-of .ensures .0
+
+hi-is : (c : tie.After-width) → toZ w32 (ofZ w32 (c .before .before .before .before .before .range-of .result .hi)) ≡ C2 (flowOf (c .before .before .before .before .before .before .args .flow))
+hi-is c = let f : SFits w32 (c .before .before .before .before .before .range-of .result .hi) = search needs in toZ-ofZ f ∙ c .before .before .before .before .before .range-of .ensures .1
+
+start-requires : tie.Need-start-requires
+start-requires c κs =
+    let a = c .before .before .before .before .before .before in
+    subst⁻¹ (λ (z : ℤ). offset (pos 0) z < lane) (lo-is c) (start-fits (fit-legal (flowOf (a .args .flow)) (a .pre .0)))
+
+returns : tie.Need-returns
+returns c =
+    let a = c .before .before .before .before .before .before .before in
+    let flow = a .args .flow in
+    let range = c .before .before .before .before .before .before .range-of .ensures in
+    let ops = c .before .before .prepare in
+    record {
+      legal = a .pre .0;
+      prepared = rows-prepared flow (a .pre .0)
+          (subst (λ (z : ℤ). Each (opOf z) blank (flow .instructions) (flow .count) (ops .result)) (lo-is (c .before)) (ops .ensures));
+      width = c .before .width .ensures ∙ ap₂ widthOf (range .0) (range .1);
+      begins = c .start .ensures ∙ ap startOf (lo-is (c .before));
+      low = lo-is (c .before);
+      high = hi-is (c .before);
+    }
+
+pub plan-of-spec : {M : Type 1} → statement M
+plan-of-spec =
+    tie.close
+    (tie.spec
+    (λ c κs. search needs)
+    (λ c κs. search needs)
+    (λ c κs. search needs)
+    start-requires
+    returns)
