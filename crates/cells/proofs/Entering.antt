@@ -6,7 +6,7 @@ use native.Mathlib.Omega.{arith}
 use lib.ListN.{length, getD, set, length-set}
 use lib.Seq.{getD-set-same, getD-set-other}
 use Rattle.cells.specs.Cells.{cellsOf}
-use Rattle.cells.specs.Columns.{placeField, patternField, distanceField, parentField, headField, nextField, marksField, bucketField, entryFields, column, wordColumn, Rows, rowsOf, Only, From, Stored, Entered}
+use Rattle.cells.specs.Columns.{placeField, patternField, distanceField, parentField, headField, nextField, marksField, bucketField, column, wordColumn, Rows, rowsOf, Only, Stored, Entered}
 use Rattle.cells.specs.Index.{Node, node, bucketOf}
 use Rattle.cells.specs.Entries.{Entries, entriesOf, nodeOf, distanceOf, parentOf, Filled, FilledIn, LatestIn, Added, BegunIn}
 use Rattle.cells.proofs.Fields.{length-column, length-word-column, word-only}
@@ -142,9 +142,6 @@ module _ (c c₁ c₂ : List (List ℕ)) (count size place pattern distance pare
         distance-room = simp length-set (f .distance-room);
         parent-room = simp length-set (f .parent-room);
       })
-
-  pub rest-kept : From entryFields c c₂
-  rest-kept g m = s .other g (omega arith) ∙ e .rest g m
 
 -- ---- the beginning
 -- cells that hold anything, and no entry

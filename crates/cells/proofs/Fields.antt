@@ -1,13 +1,12 @@
 -- The columns of a row of cells. What is stored in a field of a cell is stored in that field's column, and the other columns are as they were.
 use mathlib.Core.Path.{_≡_, refl, sym, ap, ap₂, _∙_}
 use mathlib.Core.List.{List, [], _∷_, map}
-use Prim.Native.Nat.{ℕ, zero, suc, _+_, _*_, _/_, _%_, _≤_, _<_}
-use mathlib.Core.Logic.{_⊎_, inl, inr}
+use Prim.Native.Nat.{ℕ, zero, suc, _+_, _*_, _/_, _%_, _<_}
 use native.Mathlib.Omega.{arith}
 use lib.ListN.{length, getD, set, length-map, List·getD-map}
 use lib.Seq.{getD-set-same, getD-set-other, map-set-same, ext-getD}
 use Rattle.cells.specs.Cells.{cellWords}
-use Rattle.cells.specs.Columns.{half, placeField, patternField, distanceField, parentField, headField, nextField, marksField, bucketField, entryFields, column, wordColumn, Only, Stored, Entered}
+use Rattle.cells.specs.Columns.{half, placeField, patternField, distanceField, parentField, headField, nextField, marksField, bucketField, column, wordColumn, Only, Stored, Entered}
 
 -- ---- a function on each element
 map-set : (f : List ℕ → ℕ) (l : List (List ℕ)) (i : ℕ) (y : List ℕ) → map f (set l i y) ≡ set (map f l) i (f y)
@@ -85,34 +84,9 @@ written x a b p q distance parent next bucket =
     let c₂ = set (set c₁ patternField p) (patternField + 1) q in
     set (set (set (set (set c₂ distanceField distance) parentField parent) nextField next) marksField 0) bucketField bucket
 
-module _ (x : List ℕ) (a b p q distance parent next bucket : ℕ) where
-  -- what is not written stays
-  stays : (g : ℕ) → (g ≡ headField) ⊎ (entryFields ≤ g) → getD (written x a b p q distance parent next bucket) g 0 ≡ getD x g 0
-  stays g w =
-      let x₀ = set x placeField a in
-      let x₁ = set x₀ (placeField + 1) b in
-      let x₂ = set x₁ patternField p in
-      let x₃ = set x₂ (patternField + 1) q in
-      let x₄ = set x₃ distanceField distance in
-      let x₅ = set x₄ parentField parent in
-      let x₇ = set x₅ nextField next in
-      let x₈ = set x₇ marksField 0 in
-      getD-set-other x₈ bucketField g bucket 0 (apart bucketField (omega arith) (omega arith) w)
-      ∙ getD-set-other x₇ marksField g 0 0 (apart marksField (omega arith) (omega arith) w)
-      ∙ getD-set-other x₅ nextField g next 0 (apart nextField (omega arith) (omega arith) w)
-      ∙ getD-set-other x₄ parentField g parent 0 (apart parentField (omega arith) (omega arith) w)
-      ∙ getD-set-other x₃ distanceField g distance 0 (apart distanceField (omega arith) (omega arith) w)
-      ∙ getD-set-other x₂ (patternField + 1) g q 0 (apart (patternField + 1) (omega arith) (omega arith) w)
-      ∙ getD-set-other x₁ patternField g p 0 (apart patternField (omega arith) (omega arith) w)
-      ∙ getD-set-other x₀ (placeField + 1) g b 0 (apart (placeField + 1) (omega arith) (omega arith) w)
-      ∙ getD-set-other x placeField g a 0 (apart placeField (omega arith) (omega arith) w)
-    where
-      apart : (k : ℕ) → k < entryFields → (k ≡ headField → ⊥) → (g ≡ headField) ⊎ (entryFields ≤ g) → g ≡ k → ⊥
-      apart k l n (inl e) s = n (sym s ∙ e)
-      apart k l n (inr e) s = omega arith
-
--- what is written
-record Holds (y : List ℕ) (a b p q d r n u : ℕ) : Type 0 where
+-- what is written into x, of which only the head stays
+record Holds (x y : List ℕ) (a b p q d r n u : ℕ) : Type 0 where
+  pub head : getD y headField 0 ≡ getD x headField 0
   pub place-low : getD y placeField 0 ≡ a
   pub place-high : getD y (placeField + 1) 0 ≡ b
   pub pattern-low : getD y patternField 0 ≡ p
@@ -124,7 +98,7 @@ record Holds (y : List ℕ) (a b p q d r n u : ℕ) : Type 0 where
   pub bucket : getD y bucketField 0 ≡ u
 
 holds : (x : List ℕ) → bucketField < length x → (a b p q distance parent next bucket : ℕ)
-    → Holds (written x a b p q distance parent next bucket) a b p q distance parent next bucket
+    → Holds x (written x a b p q distance parent next bucket) a b p q distance parent next bucket
 holds [] l a b p q d r n u = absurd (omega arith)
 holds (x₀ ∷ []) l a b p q d r n u = absurd (omega arith)
 holds (x₀ ∷ x₁ ∷ []) l a b p q d r n u = absurd (omega arith)
@@ -137,6 +111,7 @@ holds (x₀ ∷ x₁ ∷ x₂ ∷ x₃ ∷ x₄ ∷ x₅ ∷ x₆ ∷ x₇ ∷ [
 holds (x₀ ∷ x₁ ∷ x₂ ∷ x₃ ∷ x₄ ∷ x₅ ∷ x₆ ∷ x₇ ∷ x₈ ∷ []) l a b p q d r n u = absurd (omega arith)
 holds (x₀ ∷ x₁ ∷ x₂ ∷ x₃ ∷ x₄ ∷ x₅ ∷ x₆ ∷ x₇ ∷ x₈ ∷ x₉ ∷ x) l a b p q d r n u =
     record {
+      head = refl;
       place-low = refl;
       place-high = refl;
       pattern-low = refl;
@@ -157,11 +132,10 @@ entered c i place pattern distance parent next bucket long {a} {b} {p} {q} ea eb
       patterns = word patternField pattern (h .pattern-low) (h .pattern-high) (ap₂ (λ (m n : ℕ). m + n * half) ep eq ∙ halves pattern);
       distances = field distanceField distance (h .distance);
       parents = field parentField parent (h .parent);
-      heads = column-same c i y headField (stays x a b p q distance parent next bucket headField (inl refl));
+      heads = column-same c i y headField (h .head);
       nexts = field nextField next (h .next);
       marks = field marksField 0 (h .marks);
       buckets = field bucketField bucket (h .bucket);
-      rest = λ g l. column-same c i y g (stays x a b p q distance parent next bucket g (inr l));
     }
   where
     x : List ℕ
@@ -170,7 +144,7 @@ entered c i place pattern distance parent next bucket long {a} {b} {p} {q} ea eb
     y : List ℕ
     y = written (getD c i []) a b p q distance parent next bucket
 
-    h : Holds (written (getD c i []) a b p q distance parent next bucket) a b p q distance parent next bucket
+    h : Holds (getD c i []) (written (getD c i []) a b p q distance parent next bucket) a b p q distance parent next bucket
     h = holds (getD c i []) (omega arith) a b p q distance parent next bucket
 
     field : (f v : ℕ) → getD (written (getD c i []) a b p q distance parent next bucket) f 0 ≡ v

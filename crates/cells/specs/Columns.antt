@@ -1,7 +1,7 @@
 -- What the cells hold, field by field: a column is one field of every cell. Machinery: inner contracts cite it, no promise does.
 use mathlib.Core.Path.{_≡_}
 use mathlib.Core.List.{List, map}
-use Prim.Native.Nat.{ℕ, _+_, _*_, _≤_}
+use Prim.Native.Nat.{ℕ, _+_, _*_}
 use lib.ListN.{getD, set}
 
 -- how many numbers half a word of 64 bits holds
@@ -37,10 +37,6 @@ wayField = 8
 abbrev pub bucketField : ℕ
 bucketField = 9
 
--- an entry and its index take the fields before this
-abbrev pub entryFields : ℕ
-entryFields = 10
-
 -- field f of every cell; the word of 64 bits in fields f and f + 1 of every cell, its lower half first
 unfoldable pub column : ℕ → List (List ℕ) → List ℕ
 column f cells = map (λ c. getD c f 0) cells
@@ -73,12 +69,9 @@ rowsOf c =
       buckets = column bucketField c;
     }
 
--- every field but f is as it was; every field from f on is
+-- every field but f is as it was
 abbrev pub Only : ℕ → (c c′ : List (List ℕ)) → Type 0
 Only f c c′ = (g : ℕ) → (g ≡ f → ⊥) → column g c′ ≡ column g c
-
-abbrev pub From : ℕ → (c c′ : List (List ℕ)) → Type 0
-From f c c′ = (g : ℕ) → f ≤ g → column g c′ ≡ column g c
 
 -- x is stored in field f of cell i
 pub record Stored (f i x : ℕ) (c c′ : List (List ℕ)) : Type 0 where
@@ -95,4 +88,3 @@ pub record Entered (i place pattern distance parent next bucket : ℕ) (c c′ :
   pub nexts : column nextField c′ ≡ set (column nextField c) i next
   pub marks : column marksField c′ ≡ set (column marksField c) i 0
   pub buckets : column bucketField c′ ≡ set (column bucketField c) i bucket
-  pub rest : From entryFields c c′

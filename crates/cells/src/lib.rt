@@ -4,7 +4,7 @@ ghost use mathlib.Core.Path.{_≡_};
 ghost use Prim.Native.Nat.{_+_, _*_, _/_, _%_, _<_, _≤_, min};
 ghost use lib.ListN.{length, getD, set};
 ghost use Rattle.cells.specs.Cells.{cellWords, mostCells, cellsOf, zeroed};
-ghost use Rattle.cells.specs.Columns.{half, placeField, patternField, distanceField, parentField, marksField, wayField, entryFields, column, wordColumn, rowsOf, Only, From, Stored, Entered};
+ghost use Rattle.cells.specs.Columns.{half, placeField, patternField, distanceField, parentField, marksField, wayField, column, wordColumn, rowsOf, Only, Stored, Entered};
 ghost use Rattle.cells.specs.Index.{node, foldOf, bucketOf, FoundIs};
 ghost use Rattle.cells.specs.Entries.{entriesOf, FilledIn, LatestIn, Added, BegunIn};
 ghost use Rattle.cells.specs.Marks.{isMarked, marking};
@@ -239,7 +239,6 @@ pub fn add(
         count (node place pattern) distance parent ⌝ }
     ensures { λ _. ⌜ FilledIn (now (cells .exit)) (count + 1) size ⌝ }
     ensures { λ _. ⌜ column marksField (now (cells .exit)) ≡ set (column marksField (now (cells .entry))) count 0 ⌝ }
-    ensures { λ _. ⌜ From entryFields (now (cells .entry)) (now (cells .exit)) ⌝ }
 {
     let h = bucket(place, pattern, size);
     let next = first(cells, count, size, h);

@@ -6,7 +6,7 @@
 ghost use mathlib.Core.Path.{_≡_};
 ghost use Prim.Native.Nat.{_<_};
 ghost use Rattle.configuration.specs.Pattern.{Width, low, assignOf};
-ghost use Rattle.cells.specs.Columns.{entryFields, rowsOf, From};
+ghost use Rattle.cells.specs.Columns.{rowsOf};
 ghost use Rattle.cells.specs.Entries.{FilledIn};
 ghost use Rattle.growth.specs.Growth.{VisitedIn, grownOf};
 ghost use Rattle.growth.specs.Fan.{FreshIn, MembersIn, Ready, Leads, opensOf, InFan, Fine, GrownIs};
@@ -43,7 +43,6 @@ pub fn visit(
     requires { ⌜ k < count ⌝ }
     ensures { λ r. ⌜ VisitedIn (now (cells .entry)) (now (cells .exit)) count size d k y r ⌝ }
     ensures { λ r. ⌜ FreshIn (now (cells .entry)) (now (cells .exit)) count (grownOf r) ⌝ }
-    ensures { λ r. ⌜ From entryFields (now (cells .entry)) (now (cells .exit)) ⌝ }
 {
     let f = cells::find(cells, count, size, y.place, y.pattern);
     match f {
@@ -86,7 +85,6 @@ fn members(
     requires { ⌜ first .pattern ≡ assignOf w (first .pattern) v low ⌝ }
     ensures { λ r. ⌜ MembersIn w v first (now (cells .entry)) (now (cells .exit)) count size d k r ⌝ }
     ensures { λ r. ⌜ FreshIn (now (cells .entry)) (now (cells .exit)) count r ⌝ }
-    ensures { λ r. ⌜ From entryFields (now (cells .entry)) (now (cells .exit)) ⌝ }
 {
     let last = w + Words::LAST_TRIAL;
     let mut n = count;

@@ -39,7 +39,7 @@ pub enum SampleEnd {
     Refused(Refusal),
 }
 
-// What a wish for a sample comes to: the exit's distance, the number of tapes, and their lengths in the record row.
+// What a wish for a sample comes to: the exit's distance, the number of tapes, and their lengths in the record row; all 0 without a sample.
 pub struct SampleAnswer {
     pub end: SampleEnd,
     pub distance: usize,

@@ -119,7 +119,7 @@ fn holds(text: &[u8], f: Flow, i: usize, p: bool, d: u64, row: &[i32], lengths: 
     blank_from(row, n) & is_sample(text, f, i, p, d, &row[0..n], lengths)
 }
 
-// The same for as many lengths as there are tapes.
+// The same for as many lengths as there are tapes; the others are 0.
 fn holds_tapes(
     text: &[u8],
     f: Flow,
@@ -133,7 +133,8 @@ fn holds_tapes(
     if lengths.len() < t {
         return false;
     }
-    holds(text, f, i, p, d, row, &lengths[0..t])
+    let idle = total(lengths, row.len()) == total(&lengths[0..t], row.len());
+    idle & holds(text, f, i, p, d, row, &lengths[0..t])
 }
 
 fn print_end(p: bool, yes: &[u8], no: &[u8]) {
@@ -174,7 +175,7 @@ fn print_sample(text: &[u8], f: Flow, i: usize, p: bool)
                 show::exit(i + 1, p);
                 show::print(b",");
                 show::refusal(why);
-                show::print(b"\n");
+                print_end(blank_from(&row, 0), b"", b", and the row is changed");
             }
         }
     }

@@ -77,7 +77,7 @@ fn walk(cells: &mut [[u32; Cell::WORDS]], size: usize, ops: [Op; 64], w: u64) ->
     Searched::Done(n)
 }
 
-// Everything that the flow reaches from its start. Where the cells are too few they are left as they are.
+// Everything that the flow reaches from its start. Where the cells are too few they are not zeroed here.
 pub fn search(cells: &mut [[u32; Cell::WORDS]], ops: [Op; 64], w: u64, start: Words) -> Searched
     requires { ⌜ ((s : Subject w ops) × (start ≡ startOf (s .lo))) ⌝ }
     ensures { λ r. ⌜ ((s : Subject w ops) → start ≡ startOf (s .lo)

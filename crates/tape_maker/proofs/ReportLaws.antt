@@ -37,7 +37,7 @@ use Rattle.search.specs.Search.{Subject, Finished, SearchedIs}
 use Rattle.search.specs.declared.Searched as Ends
 use Rattle.search.specs.declared.Searched.the-variants.{Done, Full}
 use Rattle.tape_maker.specs.Report.{Outnumber, Count, Reported, refusal, FlowReport, ReportOf, ReportIs}
-use Rattle.tape_maker.specs.Inner.{Each, GivenIs, Planned, refuses}
+use Rattle.tape_maker.specs.Inner.{Each, GivenIs, Planned, reportRefused}
 use Rattle.tape_maker.specs.declared.ReportEnd.{ReportEnd}
 use Rattle.tape_maker.specs.declared.ReportAnswer.{ReportAnswer}
 use Rattle.tape_maker.specs.declared.planning.Plan.{Plan}
@@ -139,7 +139,7 @@ pub zeroed-after : (c c₁ c₂ : List (List ℕ)) → length c₁ ≡ length c 
 zeroed-after c c₁ c₂ e z = z ∙ ap (λ (n : ℕ). replicate n (replicate cellWords 0)) e
 
 pub report-is : (text : List ℕ) (c c₁ c₂ : List (List ℕ)) (a : ReportAnswer) → ReportOf (readFlow text) (cellsOf c) a → length c₁ ≡ length c
-    → {b : Bool} → b ≡ refuses (a .end) → (b ≡ true → c₂ ≡ zeroed c₁) → ReportIs text c c₂ a
-unfolding refuses
+    → {b : Bool} → b ≡ reportRefused (a .end) → (b ≡ true → c₂ ≡ zeroed c₁) → ReportIs text c c₂ a
+unfolding reportRefused
 report-is text c c₁ c₂ a h e q z =
-    record { answer = h; cells-zero = λ why w. zeroed-after c c₁ c₂ e (z (q ∙ ap refuses w)) }
+    record { answer = h; cells-zero = λ why w. zeroed-after c c₁ c₂ e (z (q ∙ ap reportRefused w)) }

@@ -27,7 +27,7 @@ use Rattle.sample.specs.declared.SampleEnd.the-variants.{Taken, Never, Refused}
 use Rattle.sample.specs.declared.SampleAnswer.{SampleAnswer}
 use Rattle.tape_maker.specs.Report.{Outnumber}
 use Rattle.tape_maker.specs.Sample.{Wanted, Held, Reason, no-such-exit, too-few-cells, short-row, Answered, SampleOf, SampleIs}
-use Rattle.tape_maker.specs.Inner.{exitsAt, exitsIn, Planned, denies}
+use Rattle.tape_maker.specs.Inner.{exitsAt, exitsIn, Planned, sampleRefused}
 use Rattle.tape_maker.specs.declared.planning.Plan.{Plan}
 use Rattle.tape_maker.proofs.Tables.{exits-held}
 use Rattle.tape_maker.proofs.ReportLaws.{finished-walkable, finished-count, zeroed-after}
@@ -113,7 +113,7 @@ module _ {o : Checked Flow} (i : ℕ) (e : Exit) (cells : ℕ) (row row′ : Lis
 -- the cells afterwards
 pub sample-is : (text : List ℕ) (i : ℕ) (exit : Bool) (c c₁ c₂ : List (List ℕ)) (row row′ : List ℤ) (a : SampleAnswer)
     → SampleOf (readFlow text) i (exitIf exit) (cellsOf c) row row′ a → length c₁ ≡ length c
-    → {b : Bool} → b ≡ denies (a .end) → (b ≡ true → c₂ ≡ zeroed c₁) → SampleIs text i exit c c₂ row row′ a
-unfolding denies
+    → {b : Bool} → b ≡ sampleRefused (a .end) → (b ≡ true → c₂ ≡ zeroed c₁) → SampleIs text i exit c c₂ row row′ a
+unfolding sampleRefused
 sample-is text i exit c c₁ c₂ row row′ a h e q z =
-    record { answer = h; cells-zero = λ why w. zeroed-after c c₁ c₂ e (z (q ∙ ap denies w)) }
+    record { answer = h; cells-zero = λ why w. zeroed-after c c₁ c₂ e (z (q ∙ ap sampleRefused w)) }

@@ -54,11 +54,11 @@ pub record GivenIs (rows : List Row) (count n : ℕ) (d : Distances) (r : Report
   pub m : r .m ≡ d .m
 
 -- whether an answer is a refusal, by its end
-unfoldable pub refuses : ReportEnds.ReportEnd → Bool
-refuses ReportEnds.the-variants.Given = false
-refuses (ReportEnds.the-variants.Refused why) = true
+unfoldable pub reportRefused : ReportEnds.ReportEnd → Bool
+reportRefused ReportEnds.the-variants.Given = false
+reportRefused (ReportEnds.the-variants.Refused why) = true
 
-unfoldable pub denies : SampleEnds.SampleEnd → Bool
-denies SampleEnds.the-variants.Taken = false
-denies SampleEnds.the-variants.Never = false
-denies (SampleEnds.the-variants.Refused why) = true
+unfoldable pub sampleRefused : SampleEnds.SampleEnd → Bool
+sampleRefused SampleEnds.the-variants.Taken = false
+sampleRefused SampleEnds.the-variants.Never = false
+sampleRefused (SampleEnds.the-variants.Refused why) = true

@@ -8,7 +8,7 @@ ghost use Rattle.flow.specs.Legal.{Legal};
 ghost use Rattle.flow.specs.Read.{readFlow};
 ghost use Rattle.cells.specs.Cells.{cellsOf};
 ghost use Rattle.tape_maker.specs.Report.{refusal, FlowReport, ReportOf};
-ghost use Rattle.tape_maker.specs.Inner.{refuses, exitsIn, Each, GivenIs};
+ghost use Rattle.tape_maker.specs.Inner.{reportRefused, exitsIn, Each, GivenIs};
 use crate::ReportAnswer;
 use crate::ReportEnd;
 use crate::planning;
@@ -23,7 +23,7 @@ use table::Distances;
 
 // Whether a report was refused.
 pub fn is_refusal(end: ReportEnd) -> bool
-    ensures { λ r. ⌜ r ≡ refuses end ⌝ }
+    ensures { λ r. ⌜ r ≡ reportRefused end ⌝ }
 {
     match end {
         ReportEnd::Given => false,

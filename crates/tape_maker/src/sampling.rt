@@ -7,7 +7,7 @@ ghost use Rattle.flow.specs.Legal.{Legal};
 ghost use Rattle.flow.specs.Read.{readFlow};
 ghost use Rattle.cells.specs.Cells.{cellsOf};
 ghost use Rattle.tape_maker.specs.Sample.{Answered, SampleOf};
-ghost use Rattle.tape_maker.specs.Inner.{denies, exitsAt};
+ghost use Rattle.tape_maker.specs.Inner.{sampleRefused, exitsAt};
 use crate::planning;
 use crate::reporting;
 use cells::Cell;
@@ -22,7 +22,7 @@ use search::Searched;
 
 // Whether a wish for a sample was refused.
 pub fn is_refusal(end: SampleEnd) -> bool
-    ensures { λ r. ⌜ r ≡ denies end ⌝ }
+    ensures { λ r. ⌜ r ≡ sampleRefused end ⌝ }
 {
     match end {
         SampleEnd::Taken => false,

@@ -1,7 +1,7 @@
 -- `cells::add` meets its contract: the entry is written, and its bucket's head leads to it (proofs/Entering.antt).
 use native.Mathlib.Omega.{arith}
 use borrow.Author.Needs.{needs}
-use Rattle.cells.proofs.Entering.{room, added, filled-more, marks-added, rest-kept}
+use Rattle.cells.proofs.Entering.{room, added, filled-more, marks-added}
 use Rattle.cells.proofs.add.Statement.{statement}
 use Rattle.cells.proofs.add.Tie as tie
 
@@ -41,10 +41,7 @@ returns c =
       added _ _ _ _ _ _ _ _ _ _ _ f l h (g .first .ensures) (e .enter .ensures) (p .put .ensures),
       (
         filled-more _ _ _ _ _ _ _ _ _ _ _ f l h (g .first .ensures) (e .enter .ensures) (p .put .ensures),
-        (
-          marks-added _ _ _ _ _ _ _ _ _ _ _ f l h (g .first .ensures) (e .enter .ensures) (p .put .ensures),
-          rest-kept _ _ _ _ _ _ _ _ _ _ _ f l h (g .first .ensures) (e .enter .ensures) (p .put .ensures),
-        ),
+        marks-added _ _ _ _ _ _ _ _ _ _ _ f l h (g .first .ensures) (e .enter .ensures) (p .put .ensures),
       ),
     )
 

@@ -20,7 +20,8 @@ returns-2 : tie.Need-returns-2
 returns-2 c =
     let w = c .before .before in
     let g = w .before in
-    head-past _ _ _ _ _ _ (g .before .pre .0) (g .get .ensures) (w .wide .ensures) (c .if2 .taken)
+    let f = g .before .pre .0 in
+    head-past _ _ _ _ _ _ f (g .get .ensures) (w .wide .ensures) (omega (arith, c .if2 .taken, f .index .within, f .index .few))
 
 get-requires-2 : tie.Need-get-requires-2
 get-requires-2 c κs =

@@ -71,7 +71,7 @@ returns-3 c =
     let told = c .before .before .before .before .before in
     let v = visited told in
     fanning.marked-answer (start v .pre .1 .1) (start v .pre .0) _ _ (open-still v) (took v .take .ensures) _ _ _ _ (v .visit .ensures .0)
-    (told .s .given .1) _ (v .visit .ensures .1 .0) (sym (c .before .marked .ensures) ∙ c .if2 .taken)
+    (told .s .given .1) _ (v .visit .ensures .1) (sym (c .before .marked .ensures) ∙ c .if2 .taken)
 
 mark-requires : tie.Need-mark-requires
 mark-requires c κs = marked-requires (c .before .before .before .before) κs
@@ -93,8 +93,8 @@ returns-4 c =
     let set = walked .before .before .before in
     let v = visited (told set) in
     fanning.members-answer (start v .pre .1 .1) (start v .pre .0) _ _ (open-still v) (took v .take .ensures) _ _ _ _
-    (visited-marked _ _ _ _ _ _ _ _ _ (set .mark .ensures .1) (v .visit .ensures .0)) (told set .s .given .1) _ _ (v .visit .ensures .1 .0)
-    (column-long marksField _ _ (v .visit .kept .0)) (set .mark .ensures .0) _ _ (walked .members .ensures .1 .0) (walked .members .ensures .0)
+    (visited-marked _ _ _ _ _ _ _ _ _ (set .mark .ensures .1) (v .visit .ensures .0)) (told set .s .given .1) _ _ (v .visit .ensures .1)
+    (column-long marksField _ _ (v .visit .kept .0)) (set .mark .ensures .0) _ _ (walked .members .ensures .1) (walked .members .ensures .0)
 
 pub fan-spec : {M : Type 1} → statement M
 fan-spec =

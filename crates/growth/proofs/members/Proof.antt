@@ -4,7 +4,7 @@ use Prim.Native.Nat.{_+_, _-_, _≤_}
 use native.Mathlib.Omega.{arith}
 use lib.ListN.{length}
 use borrow.Author.Needs.{needs}
-use Rattle.cells.specs.Columns.{marksField, entryFields, column, rowsOf, From}
+use Rattle.cells.specs.Columns.{marksField, column, rowsOf}
 use Rattle.cells.specs.Entries.{entriesOf}
 use Rattle.cells.specs.Marks.{Fresh}
 use Rattle.cells.proofs.Marking.{fresh-none, fresh-then}
@@ -20,14 +20,14 @@ use Rattle.growth.proofs.members.Tie as tie
 abbrev Inv-loop : tie.InvT-loop
 Inv-loop cells₀ count size d k w v first last n₀ y₀ cells n y =
     Kept (Member w v first) (Tried w v first y) (entriesOf (rowsOf cells₀)) (entriesOf (rowsOf cells)) (rowsOf cells .heads) (rowsOf cells .nexts)
-    count size d k n × (7 ≤ y) × From entryFields cells₀ cells × Fresh (column marksField cells₀) (column marksField cells) count n
+    count size d k n × (7 ≤ y) × Fresh (column marksField cells₀) (column marksField cells) count n
     × (length cells ≡ length cells₀)
 
 abbrev μ-loop : tie.MeasureT-loop
 μ-loop cells₀ count size d k w v first last n₀ y₀ cells n y = w + 25 - y
 
 loop-holds : tie.Need-loop-holds Inv-loop μ-loop
-loop-holds c = (members-none _ _ _ (c .pre .0), omega arith, λ g l. refl, fresh-none _ _, refl)
+loop-holds c = (members-none _ _ _ (c .pre .0), omega arith, fresh-none _ _, refl)
 
 fan-at-requires : tie.Need-fan-at-requires Inv-loop μ-loop
 fan-at-requires c κs =
@@ -48,10 +48,7 @@ returns c =
     let at = inside .before in (
       members-full _ _ _ _ (at .loop .inv .0) (at .loop .inv .1) (omega (arith, inside .loop-test .taken)) _ (made .fan-at .ensures)
           (visited-full _ _ _ _ _ _ _ _ _ _ (visited .visit .ensures .0) (c .enum-told .given .1)),
-      (
-        fresh-full _ _ _ _ _ _ (kept-count (at .loop .inv .0)) (at .loop .inv .3) (visited .visit .ensures .1 .0) (c .enum-told .given .1),
-        λ g l. visited .visit .ensures .1 .1 g l ∙ at .loop .inv .2 g l,
-      ),
+      fresh-full _ _ _ _ _ _ (kept-count (at .loop .inv .0)) (at .loop .inv .2) (visited .visit .ensures .1) (c .enum-told .given .1),
     )
 
 add-y : tie.Need-add-y Inv-loop μ-loop
@@ -74,16 +71,15 @@ loop-again c =
       members-more _ _ _ _ (at .loop .inv .0) (at .loop .inv .1) (omega (arith, inside .loop-test .taken)) _ (made .fan-at .ensures)
           (visited-at _ _ _ _ _ _ _ _ _ _ (visited .visit .ensures .0) (told .s .given .1)),
       omega (arith, at .loop .inv .1),
-      λ g l. visited .visit .ensures .1 .1 g l ∙ at .loop .inv .2 g l,
-      fresh-then _ _ _ _ _ _ (kept-count (at .loop .inv .0)) (at .loop .inv .3) (fresh-at _ _ _ _ (visited .visit .ensures .1 .0) (told .s .given .1)),
-      visited .visit .kept .0 ∙ at .loop .inv .4,
+      fresh-then _ _ _ _ _ _ (kept-count (at .loop .inv .0)) (at .loop .inv .2) (fresh-at _ _ _ _ (visited .visit .ensures .1) (told .s .given .1)),
+      visited .visit .kept .0 ∙ at .loop .inv .3,
     )
 
 returns-2 : tie.Need-returns-2 Inv-loop μ-loop
 unfolding MembersIs
 returns-2 c =
     let i = c .before .loop .inv in
-    (members-all _ _ _ _ (i .0) (omega (arith, c .loop-test .left)), (fresh-to _ _ _ _ (i .3), i .2))
+    (members-all _ _ _ _ (i .0) (omega (arith, c .loop-test .left)), fresh-to _ _ _ _ (i .2))
 
 pub members-spec : {M : Type 1} → statement M
 members-spec =

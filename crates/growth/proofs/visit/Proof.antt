@@ -1,5 +1,4 @@
 -- `visit` meets its contract. Each answer is a law of Visiting, from what `find` found and what `add` stored.
-use mathlib.Core.Path.{refl}
 use native.Mathlib.Omega.{arith}
 use denote.Ref.{now}
 use borrow.Author.Needs.{needs}
@@ -19,7 +18,7 @@ returns c =
     let told = c .before in
     let found = told .before .before in
     let start = found .before .before in
-    (visit-full (start .pre .0) _ (found .find .ensures) (told .enum-told .given .1) (omega (arith, c .if1 .taken)), (fresh-none _ _, λ g l. refl))
+    (visit-full (start .pre .0) _ (found .find .ensures) (told .enum-told .given .1) (omega (arith, c .if1 .taken)), fresh-none _ _)
 
 returns-2 : tie.Need-returns-2
 unfolding VisitedIs FreshIs grownOf
@@ -27,7 +26,7 @@ returns-2 c =
     let known = c .before in
     let found = known .before .before in
     let start = found .before .before in
-    (visit-found (start .pre .0) _ (found .find .ensures) (known .f .given .1), (fresh-none _ _, λ g l. refl))
+    (visit-found (start .pre .0) _ (found .find .ensures) (known .f .given .1), fresh-none _ _)
 
 returns-3 : tie.Need-returns-3
 unfolding VisitedIs FreshIs grownOf
@@ -39,7 +38,7 @@ returns-3 c =
     let start = found .before .before in
     let more = added .add .ensures in (
       visit-new (start .pre .0) _ (found .find .ensures) (told .enum-told .given .1) (omega (arith, other .if1 .left)) (more .0) (more .1 .0),
-      (fresh-one _ _ _ (more .1 .1 .0) (omega (arith, room _ (start .pre .0), length-column marksField (now (start .args .cells)), other .if1 .left)), more .1 .1 .1),
+      fresh-one _ _ _ (more .1 .1) (omega (arith, room _ (start .pre .0), length-column marksField (now (start .args .cells)), other .if1 .left)),
     )
 
 pub visit-spec : {M : Type 1} → statement M

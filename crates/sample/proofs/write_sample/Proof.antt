@@ -1,6 +1,5 @@
 -- `write_sample` meets its contract.
 use mathlib.Core.Path.{_≡_, sym, subst}
-use Prim.Native.Nat.{_-_}
 use native.Mathlib.Omega.{arith}
 use denote.Ref.{now}
 use lib.ListN.{length}

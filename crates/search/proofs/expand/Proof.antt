@@ -89,7 +89,7 @@ returns-2 c =
     let g = f .before .before in
     expanded-by _ _ _ _ _ _ _ _ (same g) (far g)
     (next-answer (fine g) _ _ _ _ _ _ _ (f .fan .ensures) (grew .g .given .1) (stepped .next .ensures) _ _
-    (v .visit .ensures .1 .0) (v .visit .ensures .0) (c .after-visit .ensures))
+    (v .visit .ensures .1) (v .visit .ensures .0) (c .after-visit .ensures))
 
 pub expand-spec : {M : Type 1} → statement M
 expand-spec =

@@ -1,6 +1,7 @@
 -- `list_exits` meets its contract: what is listed stays (proofs/Passing.antt).
 use mathlib.Core.Path.{ap, _∙_}
 use mathlib.Core.Bool.{Bool, cond, _&&_}
+use native.Mathlib.Omega.{arith}
 use borrow.Author.Needs.{needs}
 use lib.Dec.{eqb}
 use Rattle.model.specs.Machine.{p-exit, m-exit}
@@ -12,8 +13,8 @@ use Rattle.table.proofs.list_exits.Tie as tie
 both : tie.Need-returns
 both c =
     let a = c .before .before .args in (
-      kept-old (takesOf (a .w) (a .op) (a .x) p-exit) (a .p) (a .d) (c .before .if1 .taken),
-      kept-old (takesOf (a .w) (a .op) (a .x) m-exit) (a .m) (a .d) (c .if2 .taken),
+      kept-old (takesOf (a .w) (a .op) (a .x) p-exit) (a .p) (a .d) (λ e. omega (arith, c .before .if1 .taken, e)),
+      kept-old (takesOf (a .w) (a .op) (a .x) m-exit) (a .m) (a .d) (λ e. omega (arith, c .if2 .taken, e)),
     )
 
 looked : tie.Need-returns-2

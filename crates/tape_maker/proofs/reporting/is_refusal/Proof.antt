@@ -1,17 +1,17 @@
 -- `tape_maker::reporting::is_refusal` meets its contract, end by end.
 use mathlib.Core.Path.{sym, ap}
 use borrow.Author.Needs.{needs}
-use Rattle.tape_maker.specs.Inner.{refuses}
+use Rattle.tape_maker.specs.Inner.{reportRefused}
 use Rattle.tape_maker.proofs.reporting.is_refusal.Statement.{statement}
 use Rattle.tape_maker.proofs.reporting.is_refusal.Tie as tie
 
 given : tie.Need-returns
-unfolding refuses
-given c = sym (ap refuses (c .enum-told .given .1))
+unfolding reportRefused
+given c = sym (ap reportRefused (c .enum-told .given .1))
 
 refused : tie.Need-returns-2
-unfolding refuses
-refused c = sym (ap refuses (c .enum-told2 .given .1))
+unfolding reportRefused
+refused c = sym (ap reportRefused (c .enum-told2 .given .1))
 
 pub is-refusal-spec : {M : Type 1} → statement M
 is-refusal-spec = tie.close (tie.spec (λ c. search needs) (λ c. search needs) given refused)
