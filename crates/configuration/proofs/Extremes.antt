@@ -2,8 +2,8 @@
 -- constant anyway; so least and greatest are folds that take one number from each row.
 use mathlib.Core.Path.{_≡_, refl, sym, ap, ap₂, _∙_}
 use mathlib.Core.Bool.{Bool, true, false, cond}
-use mathlib.Core.List.{List, [], _∷_, map}
-use Prim.Native.Nat.{ℕ, suc, _<_}
+use mathlib.Core.List.{List, [], _∷_, _++_, map}
+use Prim.Native.Nat.{ℕ, suc, _≤_, _<_}
 use native.Mathlib.Omega.{arith}
 use lib.IntN.{ℤ, pos}
 use lib.Signed.{ltZ, leZ}
@@ -14,12 +14,14 @@ use borrow.Author.Tests.{ltb-true, ltb-false}
 use mir.Syntax.{w32}
 use mir.Val.{SFits, toZ, ofZ}
 use mir.Facts.{toZ-ofZ}
-use Rattle.model.specs.Language.{Instruction, read, put, copy, const, less, over, under, nop, stop, constants, allConstants, least, greatest, C1, C2}
+use Rattle.model.specs.Language.{Instruction, fields, constants, allConstants, least, greatest, C1, C2}
 use Rattle.model.proofs.Integers.{zarith}
-use Rattle.flow.specs.Code.{rowOf, instructionOf, flowOf}
+use Rattle.flow.specs.Code.{row as rowBy, instructionOf, flowOf}
+use Rattle.flow.specs.declared.Kind.the-variants.{Read}
 use Rattle.flow.specs.declared.Flow.{Flow as Rows}
 use Rattle.flow.specs.declared.Instruction.{Instruction as Row}
 use Rattle.configuration.specs.Inner.{constantIn}
+use Rattle.configuration.proofs.Prepared.{few-constants}
 
 abbrev pub lesser : ℤ → ℤ → ℤ
 lesser c r = cond (ltZ c r) c r
@@ -56,16 +58,13 @@ greatest-zero cs = let h : ltZ (greatest cs) (pos 0) ≡ false = omega (zarith, 
 -- a fold f over constants that takes them by g, and that 0 does not change: one instruction further
 further : (f : List ℤ → ℤ) (g : ℤ → ℤ → ℤ) → ((c : ℤ) (cs : List ℤ) → f (c ∷ cs) ≡ g c (f cs)) → ((cs : List ℤ) → g (pos 0) (f cs) ≡ f cs) →
     (i : Instruction) (is : List Instruction) → f (allConstants (i ∷ is)) ≡ g (constantIn i) (f (allConstants is))
-unfolding allConstants constants
-further f g h z (read a v p m) is = sym (z (allConstants is))
-further f g h z (put v y n) is = sym (z (allConstants is))
-further f g h z (copy u v n) is = sym (z (allConstants is))
-further f g h z (const c v n) is = h c (allConstants is)
-further f g h z (less u v p m) is = sym (z (allConstants is))
-further f g h z (over c v p m) is = h c (allConstants is)
-further f g h z (under v c p m) is = h c (allConstants is)
-further f g h z (nop n) is = sym (z (allConstants is))
-further f g h z stop is = sym (z (allConstants is))
+unfolding allConstants
+further f g h z i is = by (constants (fields i)) (few-constants i)
+  where
+    by : (cs : List ℤ) → length cs ≤ 1 → f (cs ++ allConstants is) ≡ g (getD cs 0 (pos 0)) (f (allConstants is))
+    by [] l = sym (z (allConstants is))
+    by (c ∷ []) l = h c (allConstants is)
+    by (c ∷ d ∷ cs) l = absurd (omega arith)
 
 -- such a fold, as a loop takes it up
 pub record Fold (f : List ℤ → ℤ) (g : ℤ → ℤ → ℤ) : Type 0 where
@@ -96,9 +95,9 @@ pub rest-all : (flow : Rows) → (least (rest flow 0) ≡ C1 (flowOf flow)) × (
 unfolding rest flowOf C1 C2
 rest-all flow = (refl, refl)
 
--- what `row_at` gives past the rows
+-- what stands past the rows
 abbrev blank : Row
-blank = rowOf stop
+blank = rowBy Read []
 
 module _ (flow : Rows) (i : ℕ) (h : i < flow .count) (f : List ℤ → ℤ) (g : ℤ → ℤ → ℤ) (fold : Fold f g) where
   abbrev row : Row
@@ -108,7 +107,7 @@ module _ (flow : Rows) (i : ℕ) (h : i < flow .count) (f : List ℤ → ℤ) (g
   rows = take (flow .count) (flow .instructions)
 
   fold-row : f (rest flow i) ≡ g (constantIn (instructionOf row)) (f (rest flow (suc i)))
-  unfolding rest
+  unfolding rest constants
   fold-row = go (ltb i (length (flow .instructions))) refl
     where
       go : (b : Bool) → ltb i (length (flow .instructions)) ≡ b → f (rest flow i) ≡ g (constantIn (instructionOf row)) (f (rest flow (suc i)))

@@ -1,9 +1,15 @@
 -- Machinery that only inner contracts cite.
-use mathlib.Core.List.{List}
-use Prim.Native.Nat.{ℕ, _<_}
+use mathlib.Core.Path.{_≡_}
+use mathlib.Core.Bool.{Bool, true, false, not}
+use mathlib.Core.List.{List, map}
+use Prim.Native.Nat.{ℕ, _-_, _≤_, _<_}
 use lib.IntN.{ℤ, pos}
 use lib.ListN.{getD}
-use Rattle.model.specs.Language.{Instruction, read, put, copy, const, less, over, under, nop, stop}
+use Rattle.model.specs.Language.{Instruction, fields, constants}
+use Rattle.flow.specs.Words.{sorts, mayMinus, count, at}
+use Rattle.flow.specs.Code.{numbersIn}
+use Rattle.flow.specs.declared.Instruction.{Instruction as Row}
+use Rattle.flow.specs.declared.Sort.{Sort}
 use Rattle.flow.specs.declared.Kind.{Kind}
 use Rattle.flow.specs.declared.Kind.the-variants.{Read, Put, Copy, Set, Less, Over, Under, Nop, Stop}
 use Rattle.configuration.specs.Op.{readOp, assignOp, testOp, goOp, stopOp}
@@ -15,24 +21,23 @@ Below n xs = (i : ℕ) → getD xs i 0 < n
 
 -- the constant that an instruction names, 0 if it names none
 abbrev pub constantIn : Instruction → ℤ
-constantIn (read a v p m) = pos 0
-constantIn (put v y n) = pos 0
-constantIn (copy u v n) = pos 0
-constantIn (const c v n) = c
-constantIn (less u v p m) = pos 0
-constantIn (over c v p m) = c
-constantIn (under v c p m) = c
-constantIn (nop n) = pos 0
-constantIn stop = pos 0
+constantIn x = getD (constants (fields x)) 0 (pos 0)
 
--- the prepared form of a kind, from a tape or first variable, a variable and a constant that are prepared already
-abbrev pub formed : Kind → (a v c p m : ℕ) → Op
-formed Read a v c p m = readOp a v p m
-formed Put a v c p m = goOp p
-formed Copy a v c p m = assignOp a v 0 p
-formed Set a v c p m = assignOp 4 v c p
-formed Less a v c p m = testOp a v 0 p m
-formed Over a v c p m = testOp 4 v c p m
-formed Under a v c p m = testOp v 4 c p m
-formed Nop a v c p m = goOp p
-formed Stop a v c p m = stopOp
+-- whether field j of a kind is a count, and rows whose counts fit a byte
+abbrev pub isCount : List Sort → ℕ → Bool
+isCount ss j = getD (map (λ s. not (mayMinus s)) ss) j false
+
+abbrev pub Bytes : Row → Type 0
+Bytes x = (j : ℕ) → isCount (sorts (x .kind)) j ≡ true → count (at (numbersIn x) j) ≤ 255
+
+-- the prepared form of a kind, from the numbers of the line as counts, and the first two as constants that are prepared already
+abbrev pub formed : Kind → (a b c d u v : ℕ) → Op
+formed Read a b c d u v = readOp (a - 1) (b - 1) c d
+formed Put a b c d u v = goOp c
+formed Copy a b c d u v = assignOp (a - 1) (b - 1) 0 c
+formed Set a b c d u v = assignOp 4 (b - 1) u c
+formed Less a b c d u v = testOp (a - 1) (b - 1) 0 c d
+formed Over a b c d u v = testOp 4 (b - 1) u c d
+formed Under a b c d u v = testOp (a - 1) 4 v c d
+formed Nop a b c d u v = goOp a
+formed Stop a b c d u v = stopOp

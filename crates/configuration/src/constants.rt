@@ -2,17 +2,18 @@
 
 ghost use mathlib.Core.Path.{_≡_};
 ghost use mathlib.Core.Bool.{cond};
-ghost use Prim.Native.Nat.{_-_, _≤_};
+ghost use Prim.Native.Nat.{_-_, _≤_, min};
 ghost use Rattle.model.specs.Language.{C1, C2};
+ghost use Rattle.flow.specs.Words.{count};
 ghost use Rattle.flow.specs.Code.{instructionOf, flowOf};
-ghost use Rattle.configuration.specs.Inner.{constantIn, formed};
+ghost use Rattle.configuration.specs.Inner.{Bytes, constantIn, formed};
 ghost use Rattle.configuration.specs.Op.{offset, widthOf, opOf};
 use crate::Op;
 use crate::Range;
 use flow::Flow;
 use flow::Instruction;
 use flow::Kind;
-use flow::lent;
+use flow::words;
 
 // How far c lies above lo.
 pub fn offset_of(c: i32, lo: i32) -> u32
@@ -42,34 +43,47 @@ fn index(n: u8) -> u8
     n - 1
 }
 
-// The prepared form of a kind.
-fn form(kind: Kind, a: u8, v: u8, c: u32, p: u8, m: u8) -> Op
-    ensures { λ r. ⌜ r ≡ formed kind a v c p m ⌝ }
+// A number that counts, in a byte; a legal flow has none that is larger.
+fn byte(n: i32) -> u8
+    ensures { λ r. ⌜ r ≡ min (count n) 255 ⌝ }
+{
+    if n < 0 {
+        return 0;
+    }
+    if 255 < n {
+        return 255;
+    }
+    n as u8
+}
+
+// The prepared form of a kind: a, b, c, d are the numbers of the line as counts, u and v the first two as constants, prepared already.
+fn form(kind: Kind, a: u8, b: u8, c: u8, d: u8, u: u32, v: u32) -> Op
+    ensures { λ r. ⌜ r ≡ formed kind a b c d u v ⌝ }
 {
     match kind {
         Kind::Read => {
-            return Op::read(a, v, p, m);
+            return Op::read(index(a), index(b), c, d);
         }
         Kind::Put => {
-            return Op::go(p);
+            return Op::go(c);
         }
         Kind::Copy => {
-            return Op::assign(a, v, 0, p);
+            return Op::assign(index(a), index(b), 0, c);
         }
         Kind::Set => {
-            return Op::assign(4, v, c, p);
+            return Op::assign(4, index(b), u, c);
         }
         Kind::Less => {
-            return Op::test(a, v, 0, p, m);
+            return Op::test(index(a), index(b), 0, c, d);
         }
         Kind::Over => {
-            return Op::test(4, v, c, p, m);
+            return Op::test(4, index(b), u, c, d);
         }
         Kind::Under => {
-            return Op::test(v, 4, c, p, m);
+            return Op::test(index(a), 4, v, c, d);
         }
         Kind::Nop => {
-            return Op::go(p);
+            return Op::go(a);
         }
         Kind::Stop => {
             return Op::stop();
@@ -79,32 +93,30 @@ fn form(kind: Kind, a: u8, v: u8, c: u32, p: u8, m: u8) -> Op
 
 // An instruction prepared for a search; lo is C1.
 pub fn prepare(x: Instruction, lo: i32) -> Op
+    requires { ⌜ Bytes x ⌝ }
     ensures { λ r. ⌜ r ≡ opOf lo (instructionOf x) ⌝ }
 {
-    let a = index(x.a);
-    let v = index(x.v);
-    let c = offset_of(x.c, lo);
+    let a = byte(x.first);
+    let b = byte(x.second);
+    let c = byte(x.third);
+    let d = byte(x.fourth);
+    let u = offset_of(x.first, lo);
+    let v = offset_of(x.second, lo);
     let kind = x.kind;
-    form(kind, a, v, c, x.p, x.m)
+    form(kind, a, b, c, d, u, v)
 }
 
 // The constant of an instruction; 0, itself a basic constant, of one that has none.
 fn constant(x: Instruction) -> i32
     ensures { λ r. ⌜ r ≡ constantIn (instructionOf x) ⌝ }
 {
-    let c = x.c;
     let kind = x.kind;
-    match kind {
-        Kind::Read => 0,
-        Kind::Put => 0,
-        Kind::Copy => 0,
-        Kind::Set => c,
-        Kind::Less => 0,
-        Kind::Over => c,
-        Kind::Under => c,
-        Kind::Nop => 0,
-        Kind::Stop => 0,
+    for k in 0..words::width(kind) {
+        if words::may_minus(words::sort_at(kind, k)) {
+            return x.number(k);
+        }
     }
+    0
 }
 
 fn pick(b: bool, x: i32, y: i32) -> i32
@@ -126,8 +138,7 @@ pub fn range_of(flow: Flow) -> Range
     let mut i = flow.count;
     while 0 < i {
         i -= 1;
-        let instructions = flow.instructions;
-        let x = lent::row_at(instructions, i);
+        let x = flow.instructions[i];
         let c = constant(x);
         lo = pick(c < lo, c, lo);
         hi = pick(hi < c, c, hi);

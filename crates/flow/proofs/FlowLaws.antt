@@ -15,35 +15,29 @@ use Rattle.text.proofs.Parts.{lines-at}
 use Rattle.flow.specs.Limits.{maxBytes}
 use Rattle.flow.specs.Read.{Checked, ok, fault, check, after, unless, readHead, readFlow, isNamed, all, readLines, lostTarget, readRest}
 use Rattle.flow.specs.Code.{rowOf, instructionOf, rowsOf, readingOf}
-use Rattle.flow.specs.Inner.{clamp, kept, judged, finished, HeadFits}
+use Rattle.flow.specs.Inner.{clamped, kept, judged, finished, HeadFits}
 use Rattle.flow.specs.declared.Refusal.{Refusal}
 use Rattle.flow.specs.declared.Refusal.the-variants.{TooLong, NoBytes, NoLastEnd, NoInstruction, NoSuchTarget}
 use Rattle.flow.specs.declared.Head.{Head}
 use Rattle.flow.specs.declared.Instruction.{Instruction as Row}
 use Rattle.flow.specs.declared.Answer.the-variants.{Legal}
-use Rattle.flow.proofs.RowLaws.{row-back}
 use Rattle.flow.proofs.ClampLaws.{clamp-kept}
 use Rattle.flow.proofs.ReadLaws.{AllFit, lines-fit, at-most-64, lost-clamp, none-lost, fault-not-ok}
 
 -- what is kept of lines that are read
-pub kept-ok : (r : Checked (List Instruction)) (rows : List Row) → ok rows ≡ kept r → (xs : List Instruction) × (r ≡ ok xs) × (rows ≡ map (λ x. rowOf (clamp x)) xs)
+pub kept-ok : (r : Checked (List Instruction)) (rows : List Row) → ok rows ≡ kept r → (xs : List Instruction) × (r ≡ ok xs) × (rows ≡ map clamped xs)
 unfolding kept
 kept-ok (ok xs) rows e = (xs, refl, cc)
 kept-ok (fault r) rows e = absurd (fault-not-ok (sym e))
 
--- rows give back the clamped instructions
-rows-back : (xs : List Instruction) → map instructionOf (map (λ x. rowOf (clamp x)) xs) ≡ map clamp xs
-rows-back [] = refl
-rows-back (x ∷ xs) = ap₂ _∷_ (row-back (clamp x)) (rows-back xs)
-
 -- instructions that pass all tests are kept whole
 all-kept : (h : Head) → HeadFits h → (n : ℕ) → n < 255 → (xs : List Instruction) → AllFit h xs
-    → ((j : ℕ) → all (isNamed n) (fields (getD xs j stop)) ≡ true) → map (λ x. rowOf (clamp x)) xs ≡ map rowOf xs
+    → ((j : ℕ) → all (isNamed n) (fields (getD xs j stop)) ≡ true) → map clamped xs ≡ map rowOf xs
 all-kept h f n l [] r s = refl
-all-kept h f n l (x ∷ xs) r s = ap₂ _∷_ (ap rowOf (clamp-kept h f n l x (r 0) (s 0))) (all-kept h f n l xs (λ j. r (suc j)) (λ j. s (suc j)))
+all-kept h f n l (x ∷ xs) r s = ap₂ _∷_ (clamp-kept h f n l x (r 0) (s 0)) (all-kept h f n l xs (λ j. r (suc j)) (λ j. s (suc j)))
 
 module _ (h : Head) (fits : HeadFits h) (rows : List Row) (xs : List Instruction) (fit : AllFit h xs) (few : length xs ≤ 64)
-    (front : take (length xs) rows ≡ map (λ x. rowOf (clamp x)) xs) (past : drop (length xs) rows ≡ replicate (64 - length xs) (rowOf stop)) where
+    (front : take (length xs) rows ≡ map clamped xs) (past : drop (length xs) rows ≡ replicate (64 - length xs) (rowOf stop)) where
   abbrev flow : Flow
   flow = record { tapes = h .tapes; outputs = h .outputs; variables = h .variables; instructions = xs }
 
@@ -64,7 +58,7 @@ module _ (h : Head) (fits : HeadFits h) (rows : List Row) (xs : List Instruction
   judged-is (some line) e = refl
 
   lost-is : lostTarget (length xs) 2 (map instructionOf (take (length xs) rows)) ≡ lostTarget (length xs) 2 xs
-  lost-is = rw (front, rows-back xs) (lost-clamp (length xs) 2 (omega arith) xs)
+  lost-is = rw front (lost-clamp h fits (length xs) 2 (omega arith) xs)
 
   any-is : finished h (length xs) rows ≡ readingOf (check (leb 1 (length xs)) NoInstruction (unless (lostTarget (length xs) 2 xs) NoSuchTarget (ok flow)))
   unfolding finished
@@ -81,7 +75,7 @@ pub finished-is : (h : Head) → HeadFits h → (ls : List (List ℕ)) (count : 
 unfolding readRest
 finished-is h f ls count rows long few front past =
     let (xs, read, same) = kept-ok (readLines h 1 ls) (take count rows) front in
-    let size : count ≡ length xs = sym (length-take-le count rows (omega arith)) ∙ ap length same ∙ length-map xs (λ x. rowOf (clamp x)) in
+    let size : count ≡ length xs = sym (length-take-le count rows (omega arith)) ∙ ap length same ∙ length-map xs clamped in
     rw read
     (ap (λ (n : ℕ). finished h n rows) size
     ∙ any-is h f rows xs (lines-fit h 1 ls xs read) (at-most-64 h ls xs read) (sym (ap (λ (n : ℕ). take n rows) size) ∙ same)

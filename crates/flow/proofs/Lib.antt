@@ -1,12 +1,14 @@
+pub mod Tests
 pub mod RowLaws
+pub mod SortLaws
 pub mod SignedLaws
 pub mod ClampLaws
 pub mod ReadLaws
-pub mod LineLaws
 pub mod HeadLaws
 pub mod FlowLaws
 pub mod LegalLaws
 pub mod WriteLineLaws
+pub mod LineLaws
+pub mod Places
 pub mod WriteSizeLaws
 pub mod WriteLaws
-pub mod Places

@@ -1,8 +1,8 @@
 -- The instruction lines, as the code's two loops read them. The inner loop reads the numbers after a word one by one, capped: what is read,
 -- in front of what the definition says of the rest, is what it says of all. A line is read in three steps, before its numbers, its numbers,
 -- behind them, whose checks are those of the definition. The outer loop keeps rows: those kept, in front of what the definition says of the lines behind, are the answer.
-use mathlib.Core.Path.{_≡_, refl, sym, ap, _∙_}
-use mathlib.Core.Bool.{Bool, true, false, cond}
+use mathlib.Core.Path.{_≡_, refl, sym, ap, ap₂, _∙_}
+use mathlib.Core.Bool.{Bool, true, false}
 use mathlib.Core.List.{List, [], _∷_, _++_, map, append-nil, append-assoc}
 use mathlib.Core.Option.{Option, none, some, Option·map}
 use Prim.Native.Nat.{ℕ, suc, _+_, _-_, _≤_, _<_, min}
@@ -12,37 +12,54 @@ use native.Mathlib.Decide.{decLe}
 use borrow.Author.Tests.{eq-eqb, ne-eqb, eqb-true, le-leb, lt-leb, leb-true, lt-ltb}
 use lib.Dec.{eqb, leb}
 use lib.IntN.{ℤ, pos, negsuc, natAbs}
-use lib.ListN.{length, getD, take, drop, set, replicate, drop-of-length-le, List·getD-map}
-use lib.Seq.{drop-cons, drop-drop, take-suc-set, drop-set-lt, getD-take}
+use lib.ListN.{length, getD, take, drop, set, replicate, length-drop, take-append-drop, drop-of-length-le}
+use lib.Seq.{drop-cons, drop-drop, take-suc-set, drop-set-lt}
 use Rattle.model.specs.Language.{Instruction, fields}
 use Rattle.text.specs.Split.{lines, fields as split, until}
-use Rattle.text.specs.Number.{numeral, natural, digitsAfter}
+use Rattle.text.specs.Number.{numeral, natural}
 use Rattle.text.specs.Capped.{cap, capped, numberOf}
 use Rattle.text.specs.declared.Number.the-variants.{Value, Bad}
 use Rattle.text.proofs.Cap.{number-value, number-bad, test-cut}
 use Rattle.text.proofs.Parts.{lines-at, lines-at-end}
 use Rattle.text.proofs.Decimal.{none-no-some}
 use Rattle.flow.specs.Limits.{maxInstructions}
-use Rattle.flow.specs.Words.{kindOf, constantAt, built}
+use Rattle.flow.specs.Words.{kindOf, sorts, mayMinus, built}
 use Rattle.flow.specs.Read.{Checked, ok, fault, check, given, after, inRange, all, joined, numerals, readLine, readLines}
-use Rattle.flow.specs.Code.{rowOf}
-use Rattle.flow.specs.Inner.{small, bounded, clamp, kept, HeadFits}
+use Rattle.flow.specs.Code.{row}
+use Rattle.flow.specs.Inner.{small, bounded, clamped, kept, HeadFits}
 use Rattle.flow.specs.Line.{smallAt, beginLine, endLine}
 use Rattle.flow.specs.declared.Kind.{Kind}
-use Rattle.flow.specs.declared.Kind.the-variants.{Read, Put, Copy, Set, Less, Over, Under, Nop, Stop}
+use Rattle.flow.specs.declared.Sort.{Sort}
+use Rattle.flow.specs.declared.Sort.the-variants.{Target}
 use Rattle.flow.specs.declared.Head.{Head}
 use Rattle.flow.specs.declared.Instruction.{Instruction as Row}
 use Rattle.flow.specs.declared.line.Start.{Start}
 use Rattle.flow.specs.declared.Refusal.{Refusal}
 use Rattle.flow.specs.declared.Refusal.the-variants.{UnknownWord, WrongCount, BadNumber, OutOfRange, OutOfTurn, TooManyLines}
-use Rattle.flow.proofs.RowLaws.{row-back}
-use Rattle.flow.proofs.ClampLaws.{in-range-clamp}
+use Rattle.flow.proofs.RowLaws.{kind-built, row-past}
+use Rattle.flow.proofs.WriteLineLaws.{numeral-natural, numbers-built}
+use Rattle.flow.proofs.ClampLaws.{in-range-row}
 use Rattle.flow.proofs.ReadLaws.{check-ok, given-ok}
 
+-- ---- what a row keeps of a number is what it keeps of the number capped
+bounded-capped : (z : ℤ) → bounded (capped z) ≡ bounded z
+unfolding bounded capped
+bounded-capped (pos n) = by (decLe n 100000)
+  where
+    by : Dec (n ≤ 100000) → bounded (pos (min n cap)) ≡ bounded (pos n)
+    by (yes h) = let whole : min n cap ≡ n = omega arith in rw whole
+    by (no h) = rw (lt-ltb 100000 n (omega arith), lt-ltb 100000 (min n cap) (omega arith))
+bounded-capped (negsuc n) = by (decLe n 99999)
+  where
+    by : Dec (n ≤ 99999) → bounded (negsuc (min n (cap - 1))) ≡ bounded (negsuc n)
+    by (yes h) = let whole : min n (cap - 1) ≡ n = omega arith in rw whole
+    by (no h) = rw (lt-ltb 99999 n (omega arith), lt-ltb 99999 (min n (cap - 1)) (omega arith))
+
 -- ---- the numbers after the word
-abbrev pub cappedAll : Option (List ℤ) → Option (List ℤ)
-cappedAll none = none
-cappedAll (some zs) = some (map capped zs)
+-- as a row keeps them
+abbrev pub keptAll : Option (List ℤ) → Option (List ℤ)
+keptAll none = none
+keptAll (some zs) = some (map bounded zs)
 
 -- numbers in front of those of the rest, if these are well written
 abbrev pub joinedAll : List ℤ → Option (List ℤ) → Option (List ℤ)
@@ -50,69 +67,56 @@ joinedAll xs none = none
 joinedAll xs (some ys) = some (xs ++ ys)
 
 join-one-more : (xs : List ℤ) (z : ℤ) (rest : Option (List ℤ)) →
-    joinedAll (xs ++ (capped z ∷ [])) (cappedAll rest) ≡ joinedAll xs (cappedAll (joined (some z) rest))
+    joinedAll (xs ++ (bounded z ∷ [])) (keptAll rest) ≡ joinedAll xs (keptAll (joined (some z) rest))
 join-one-more xs z none = refl
-join-one-more xs z (some zs) = ap some (append-assoc xs (capped z ∷ []) (map capped zs))
+join-one-more xs z (some zs) = ap some (append-assoc xs (bounded z ∷ []) (map bounded zs))
 
--- k numbers in front of what the definition says of the fields from k on; cs says which may have a minus, fs are the fields of the line
-abbrev pub behind : List Bool → List (List ℕ) → List ℤ → ℕ → Option (List ℤ)
-behind cs fs ns k = joinedAll (take k ns) (cappedAll (numerals (drop k cs) (drop (k + 2) fs)))
+-- k numbers in front of what the definition says of the fields from k on; cs are the sorts, fs the fields of the line
+abbrev pub behind : List Sort → List (List ℕ) → List ℤ → ℕ → Option (List ℤ)
+behind cs fs ns k = joinedAll (take k ns) (keptAll (numerals (drop k cs) (drop (k + 2) fs)))
 
-module _ (cs : List Bool) (fs : List (List ℕ)) (ns : List ℤ) where
-  pub numbers-start : behind cs fs ns 0 ≡ cappedAll (numerals cs (drop 2 fs))
+module _ (cs : List Sort) (fs : List (List ℕ)) (ns : List ℤ) where
+  pub numbers-start : behind cs fs ns 0 ≡ keptAll (numerals cs (drop 2 fs))
   numbers-start = by (numerals cs (drop 2 fs))
     where
-      by : (o : Option (List ℤ)) → joinedAll [] (cappedAll o) ≡ cappedAll o
+      by : (o : Option (List ℤ)) → joinedAll [] (keptAll o) ≡ keptAll o
       by none = refl
       by (some zs) = refl
 
-  module _ (k : ℕ) (inv : behind cs fs ns k ≡ cappedAll (numerals cs (drop 2 fs))) where
+  module _ (k : ℕ) (inv : behind cs fs ns k ≡ keptAll (numerals cs (drop 2 fs))) where
     module _ (l : k < length cs) (wide : length fs ≡ length cs + 2) where
       next : numerals (drop k cs) (drop (k + 2) fs)
-          ≡ joined (numeral (getD cs k false) (getD fs (k + 2) [])) (numerals (drop (k + 1) cs) (drop (k + 1 + 2) fs))
+          ≡ joined (numeral (mayMinus (getD cs k Target)) (getD fs (k + 2) [])) (numerals (drop (k + 1) cs) (drop (k + 1 + 2) fs))
       unfolding numerals
       next =
           let e : k + 1 + 2 ≡ suc (k + 2) = omega arith in
           let m : k + 2 < length fs = omega arith in
-          rw (e, add-one k, drop-cons cs k false l, drop-cons fs (k + 2) [] m)
+          rw (e, add-one k, drop-cons cs k Target l, drop-cons fs (k + 2) [] m)
 
-      pub numbers-more : (v : ℤ) → k < length ns → numberOf (numeral (getD cs k false) (getD fs (k + 2) [])) ≡ Value v
-          → behind cs fs (set ns k v) (k + 1) ≡ cappedAll (numerals cs (drop 2 fs))
+      pub numbers-more : (v : ℤ) → k < length ns → numberOf (numeral (mayMinus (getD cs k Target)) (getD fs (k + 2) [])) ≡ Value v
+          → behind cs fs (set ns k (bounded v)) (k + 1) ≡ keptAll (numerals cs (drop 2 fs))
       numbers-more v m e =
-          let (z, written, is) = number-value (numeral (getD cs k false) (getD fs (k + 2) [])) v e in
-          let t : take (k + 1) (set ns k v) ≡ take k ns ++ (capped z ∷ []) = rw (add-one, ← is) (take-suc-set ns k v m) in
+          let (z, written, is) = number-value (numeral (mayMinus (getD cs k Target)) (getD fs (k + 2) [])) v e in
+          let same : bounded v ≡ bounded z = ap bounded is ∙ bounded-capped z in
+          let t : take (k + 1) (set ns k (bounded v)) ≡ take k ns ++ (bounded z ∷ []) = rw (add-one, ← same) (take-suc-set ns k (bounded v) m) in
           rw t (join-one-more (take k ns) z (numerals (drop (k + 1) cs) (drop (k + 1 + 2) fs)) ∙ (rw (next, written) at inv))
 
-      pub numbers-bad : numberOf (numeral (getD cs k false) (getD fs (k + 2) [])) ≡ Bad → numerals cs (drop 2 fs) ≡ none
+      pub numbers-bad : numberOf (numeral (mayMinus (getD cs k Target)) (getD fs (k + 2) [])) ≡ Bad → numerals cs (drop 2 fs) ≡ none
       numbers-bad e = by (numerals cs (drop 2 fs)) (rw (next, number-bad _ e) at inv)
         where
-          by : (o : Option (List ℤ)) → none ≡ cappedAll o → o ≡ none
+          by : (o : Option (List ℤ)) → none ≡ keptAll o → o ≡ none
           by none q = refl
           by (some zs) q = absurd (none-no-some q)
 
-    pub numbers-end : length cs ≤ k → (zs : List ℤ) × (numerals cs (drop 2 fs) ≡ some zs) × (map capped zs ≡ take k ns)
+    pub numbers-end : length cs ≤ k → (zs : List ℤ) × (numerals cs (drop 2 fs) ≡ some zs) × (map bounded zs ≡ take k ns)
     unfolding numerals
     numbers-end l = by (numerals cs (drop 2 fs)) (rw (drop-of-length-le cs l, append-nil) at inv)
       where
-        by : (o : Option (List ℤ)) → some (take k ns) ≡ cappedAll o → (zs : List ℤ) × (o ≡ some zs) × (map capped zs ≡ take k ns)
+        by : (o : Option (List ℤ)) → some (take k ns) ≡ keptAll o → (zs : List ℤ) × (o ≡ some zs) × (map bounded zs ≡ take k ns)
         by none q = absurd (none-no-some (sym q))
         by (some zs) q = (zs, refl, cc)
 
 -- ---- a number without a minus, and what a row keeps of a number
-minus-first : (b : ℕ) (bs : List ℕ) → b ≡ 45 → natural (b ∷ bs) ≡ none
-unfolding natural digitsAfter
-minus-first b [] e = rw e
-minus-first b (d ∷ bs) e = rw e
-
-numeral-natural : (f : List ℕ) → numeral false f ≡ Option·map pos (natural f)
-unfolding numeral natural
-numeral-natural [] = refl
-numeral-natural (b ∷ bs) = by (eqb b 45) refl
-  where
-    by : (t : Bool) → eqb b 45 ≡ t → cond t none (Option·map pos (natural (b ∷ bs))) ≡ Option·map pos (natural (b ∷ bs))
-    by true h = sym (ap (Option·map pos) (minus-first b bs (eqb-true b 45 h)))
-    by false h = refl
-
 pub number-natural : (f : List ℕ) (v : ℤ) → numberOf (numeral false f) ≡ Value v → (n : ℕ) × (natural f ≡ some n) × (v ≡ capped (pos n))
 number-natural f v e =
     let (z, written, is) = number-value (numeral false f) v e in
@@ -134,63 +138,15 @@ unfolding capped
 small-capped (pos n) = omega arith
 small-capped (negsuc n) = omega arith
 
-bounded-capped : (z : ℤ) → bounded (capped z) ≡ bounded z
-unfolding bounded capped
-bounded-capped (pos n) = by (decLe n 100000)
-  where
-    by : Dec (n ≤ 100000) → bounded (pos (min n cap)) ≡ bounded (pos n)
-    by (yes h) = let whole : min n cap ≡ n = omega arith in rw whole
-    by (no h) = rw (lt-ltb 100000 n (omega arith), lt-ltb 100000 (min n cap) (omega arith))
-bounded-capped (negsuc n) = by (decLe n 99999)
-  where
-    by : Dec (n ≤ 99999) → bounded (negsuc (min n (cap - 1))) ≡ bounded (negsuc n)
-    by (yes h) = let whole : min n (cap - 1) ≡ n = omega arith in rw whole
-    by (no h) = rw (lt-ltb 99999 n (omega arith), lt-ltb 99999 (min n (cap - 1)) (omega arith))
-
 pub turn-read : (n : ℕ) (v : ℤ) → v ≡ capped (pos n) → small (natAbs v) ≡ small n
 turn-read n v is = rw is (small-capped (pos n))
 
--- ---- the row of the line: the numbers that the code holds, of which those of the kind's fields count, make the row of those written
-module _ (zs ns : List ℤ) (w : ℕ) (e : map capped zs ≡ take w ns) where
-  number-at : (j : ℕ) → j < w → getD ns j (pos 0) ≡ capped (getD zs j (pos 0))
-  unfolding capped
-  number-at j l = sym (getD-take w ns j (pos 0) l) ∙ ap (λ (q : List ℤ). getD q j (pos 0)) (sym e) ∙ List·getD-map capped zs j (pos 0)
-
-  small-at : (j : ℕ) → j < w → small (natAbs (getD ns j (pos 0))) ≡ small (natAbs (getD zs j (pos 0)))
-  small-at j l = rw (number-at j l) (small-capped (getD zs j (pos 0)))
-
-  bounded-at : (j : ℕ) → j < w → bounded (getD ns j (pos 0)) ≡ bounded (getD zs j (pos 0))
-  bounded-at j l = rw (number-at j l) (bounded-capped (getD zs j (pos 0)))
-
--- a kind asks for at most four numbers
-pub width-bound : (k : Kind) → length (constantAt k) ≤ 4
-width-bound Read = omega arith
-width-bound Put = omega arith
-width-bound Copy = omega arith
-width-bound Set = omega arith
-width-bound Less = omega arith
-width-bound Over = omega arith
-width-bound Under = omega arith
-width-bound Nop = omega arith
-width-bound Stop = omega arith
-
-clamp-read : (k : Kind) (zs ns : List ℤ) → map capped zs ≡ take (length (constantAt k)) ns → clamp (built k ns) ≡ clamp (built k zs)
-clamp-read Read zs ns e =
-    let s = small-at zs ns 4 e in rw (s 0 (omega arith), s 1 (omega arith), s 2 (omega arith), s 3 (omega arith))
-clamp-read Put zs ns e =
-    let s = small-at zs ns 3 e in rw (s 0 (omega arith), s 1 (omega arith), s 2 (omega arith))
-clamp-read Copy zs ns e =
-    let s = small-at zs ns 3 e in rw (s 0 (omega arith), s 1 (omega arith), s 2 (omega arith))
-clamp-read Set zs ns e =
-    let s = small-at zs ns 3 e in rw (bounded-at zs ns 3 e 0 (omega arith), s 1 (omega arith), s 2 (omega arith))
-clamp-read Less zs ns e =
-    let s = small-at zs ns 4 e in rw (s 0 (omega arith), s 1 (omega arith), s 2 (omega arith), s 3 (omega arith))
-clamp-read Over zs ns e =
-    let s = small-at zs ns 4 e in rw (bounded-at zs ns 4 e 0 (omega arith), s 1 (omega arith), s 2 (omega arith), s 3 (omega arith))
-clamp-read Under zs ns e =
-    let s = small-at zs ns 4 e in rw (s 0 (omega arith), bounded-at zs ns 4 e 1 (omega arith), s 2 (omega arith), s 3 (omega arith))
-clamp-read Nop zs ns e = let s = small-at zs ns 1 e in rw (s 0 (omega arith))
-clamp-read Stop zs ns e = refl
+-- ---- the row of the line: the numbers that the code holds, with 0 past those of the kind's fields
+-- what the code holds of the numbers makes the row of those read
+row-read : (k : Kind) (zs ns : List ℤ) → map bounded zs ≡ take (length (sorts k)) ns
+    → drop (length (sorts k)) ns ≡ replicate (4 - length (sorts k)) (pos 0) → row k ns ≡ row k (map bounded zs)
+row-read k zs ns front rest =
+    ap (row k) (sym (take-append-drop (length (sorts k)) ns) ∙ ap₂ _++_ (sym front) rest) ∙ row-past k (map bounded zs) (4 - length (sorts k))
 
 -- ---- what the code finds before the numbers after the word
 module _ (count : ℕ) (fs : List (List ℕ)) where
@@ -207,13 +163,13 @@ module _ (count : ℕ) (fs : List (List ℕ)) where
     begin-unknown e = rw (one-more, e)
 
     module _ (k : Kind) (known : kindOf (getD fs 1 []) ≡ some k) where
-      pub begin-count : (length fs ≡ length (constantAt k) + 2 → ⊥) → fault (WrongCount (count + 2)) ≡ beginLine count fs
+      pub begin-count : (length fs ≡ length (sorts k) + 2 → ⊥) → fault (WrongCount (count + 2)) ≡ beginLine count fs
       unfolding beginLine
-      begin-count e = rw (one-more, known, ne-eqb (length fs) (length (constantAt k) + 2) e)
+      begin-count e = rw (one-more, known, ne-eqb (length fs) (length (sorts k) + 2) e)
 
-      module _ (wide : length fs ≡ length (constantAt k) + 2) where
-        abbrev counted : eqb (length fs) (length (constantAt k) + 2) ≡ true
-        counted = eq-eqb (length fs) (length (constantAt k) + 2) wide
+      module _ (wide : length fs ≡ length (sorts k) + 2) where
+        abbrev counted : eqb (length fs) (length (sorts k) + 2) ≡ true
+        counted = eq-eqb (length fs) (length (sorts k) + 2) wide
 
         pub begin-bad : none ≡ smallAt fs 0 → fault (BadNumber (count + 2)) ≡ beginLine count fs
         unfolding beginLine
@@ -224,22 +180,22 @@ module _ (count : ℕ) (fs : List (List ℕ)) where
         begin-shown b e = rw (one-more, known, counted, ← e)
 
   -- a line that shows no fault there is not one too many, and has the fields that its word asks for
-  pub begun : (s : Start) → beginLine count fs ≡ ok s → (count < 64) × (length fs ≡ length (constantAt (s .kind)) + 2)
+  pub begun : (s : Start) → beginLine count fs ≡ ok s → (count < 64) × (length fs ≡ length (sorts (s .kind)) + 2)
   unfolding beginLine
   begun s e =
       let (few, e₁) = check-ok (leb (count + 1) 64) TooManyLines _ e in
       let (k, known, e₂) = given-ok (kindOf (getD fs 1 [])) (UnknownWord (count + 2)) _ e₁ in
-      let (wide, e₃) = check-ok (eqb (length fs) (length (constantAt k) + 2)) (WrongCount (count + 2)) _ e₂ in
+      let (wide, e₃) = check-ok (eqb (length fs) (length (sorts k) + 2)) (WrongCount (count + 2)) _ e₂ in
       let (n, numbered, e₄) = given-ok (smallAt fs 0) (BadNumber (count + 2)) _ e₃ in
       let same : k ≡ s .kind = cc in
-      (omega (arith, leb-true (count + 1) 64 few), rw same at (eqb-true (length fs) (length (constantAt k) + 2) wide))
+      (omega (arith, leb-true (count + 1) 64 few), rw same at (eqb-true (length fs) (length (sorts k) + 2) wide))
 
 -- ---- what the line of instruction count + 1 is read as, in the code's three steps: before its numbers, its numbers, behind them
 abbrev pub stepped : Head → ℕ → List (List ℕ) → Checked Row
 stepped h count fs =
     after (beginLine count fs) (λ s.
-    given (numerals (constantAt (s .kind)) (drop 2 fs)) (BadNumber (count + 2)) (λ zs.
-    endLine h count (s .number) (rowOf (clamp (built (s .kind) zs)))))
+    given (numerals (sorts (s .kind)) (drop 2 fs)) (BadNumber (count + 2)) (λ zs.
+    endLine h count (s .number) (row (s .kind) (map bounded zs))))
 
 -- by what the code finds: a fault before the numbers, a number that is badly written, all numbers and the row
 module _ (h : Head) (count : ℕ) (fs : List (List ℕ)) where
@@ -247,17 +203,17 @@ module _ (h : Head) (count : ℕ) (fs : List (List ℕ)) where
   steps-begin r e = rw e
 
   module _ (s : Start) (e : beginLine count fs ≡ ok s) where
-    pub steps-bad : numerals (constantAt (s .kind)) (drop 2 fs) ≡ none → stepped h count fs ≡ fault (BadNumber (count + 2))
+    pub steps-bad : numerals (sorts (s .kind)) (drop 2 fs) ≡ none → stepped h count fs ≡ fault (BadNumber (count + 2))
     steps-bad q = rw (e, q)
 
-    pub steps-end : (zs : List ℤ) → numerals (constantAt (s .kind)) (drop 2 fs) ≡ some zs
-        → (ns : List ℤ) → map capped zs ≡ take (length (constantAt (s .kind))) ns → (row : Row) → row ≡ rowOf (clamp (built (s .kind) ns))
-        → endLine h count (s .number) row ≡ stepped h count fs
-    steps-end zs q ns read row made = rw (e, q, made, clamp-read (s .kind) zs ns read)
+    pub steps-end : (zs : List ℤ) → numerals (sorts (s .kind)) (drop 2 fs) ≡ some zs
+        → (ns : List ℤ) → map bounded zs ≡ take (length (sorts (s .kind))) ns → drop (length (sorts (s .kind))) ns ≡ replicate (4 - length (sorts (s .kind))) (pos 0)
+        → endLine h count (s .number) (row (s .kind) ns) ≡ stepped h count fs
+    steps-end zs q ns front rest = rw (e, q, row-read (s .kind) zs ns front rest)
 
 -- the row that is kept of it
 abbrev rowed : Checked Instruction → Checked Row
-rowed (ok x) = ok (rowOf (clamp x))
+rowed (ok x) = ok (clamped x)
 rowed (fault r) = fault r
 
 -- the turn is told from the byte that the code compares
@@ -284,22 +240,28 @@ module _ (h : Head) (fits : HeadFits h) (count : ℕ) (fs : List (List ℕ)) whe
   line : count + 1 + 1 ≡ count + 2
   line = omega arith
 
+  -- the row that is kept of the instruction is that of its line
+  line-kept : (k : Kind) (zs : List ℤ) → length fs ≡ length (sorts k) + 2 → numerals (sorts k) (drop 2 fs) ≡ some zs → clamped (built k zs) ≡ row k (map bounded zs)
+  line-kept k zs wide e =
+      let after-two : length (drop 2 fs) ≡ length (sorts k) = omega (arith, length-drop 2 fs) in
+      ap₂ (λ (j : Kind) (l : List ℤ). row j (map bounded l)) (kind-built zs k) (numbers-built k (drop 2 fs) zs after-two e)
+
   -- the numbers, and the checks behind them
-  line-end : count < 64 → (k : Kind) (n : ℕ) (o : Option (List ℤ)) →
+  line-end : count < 64 → (k : Kind) → length fs ≡ length (sorts k) + 2 → (n : ℕ) (o : Option (List ℤ)) → numerals (sorts k) (drop 2 fs) ≡ o →
       rowed (given o (BadNumber (count + 2)) (λ zs.
       check (eqb n (count + 1)) (OutOfTurn (count + 2)) (check (all (inRange h) (fields (built k zs))) (OutOfRange (count + 2)) (ok (built k zs)))))
-      ≡ given o (BadNumber (count + 2)) (λ zs. endLine h count (small n) (rowOf (clamp (built k zs))))
+      ≡ given o (BadNumber (count + 2)) (λ zs. endLine h count (small n) (row k (map bounded zs)))
   unfolding endLine
-  line-end few k n none = refl
-  line-end few k n (some zs) =
-      rw (small-turn n (count + 1) (omega arith), row-back (clamp (built k zs)), in-range-clamp h fits (built k zs))
+  line-end few k wide n none e = refl
+  line-end few k wide n (some zs) e =
+      rw (small-turn n (count + 1) (omega arith), in-range-row h fits k zs, ← line-kept k zs wide e)
       (by (eqb n (count + 1)) (all (inRange h) (fields (built k zs))))
     where
       x : Instruction
       x = built k zs
 
       by : (s t : Bool) → rowed (check s (OutOfTurn (count + 2)) (check t (OutOfRange (count + 2)) (ok x)))
-          ≡ check s (OutOfTurn (count + 2)) (check t (OutOfRange (count + 2)) (ok (rowOf (clamp x))))
+          ≡ check s (OutOfTurn (count + 2)) (check t (OutOfRange (count + 2)) (ok (clamped x)))
       by true true = refl
       by true false = refl
       by false t = refl
@@ -310,9 +272,9 @@ module _ (h : Head) (fits : HeadFits h) (count : ℕ) (fs : List (List ℕ)) whe
       rw line
       (check-rowed (leb (count + 1) 64) TooManyLines _ _ _ (λ few.
       given-rowed (kindOf (getD fs 1 [])) (UnknownWord (count + 2)) _ _ _ (λ k.
-      check-rowed (eqb (length fs) (length (constantAt k) + 2)) (WrongCount (count + 2)) _ _ _ (λ wide.
+      check-rowed (eqb (length fs) (length (sorts k) + 2)) (WrongCount (count + 2)) _ _ _ (λ wide.
       small-rowed (natural (getD fs 0 [])) (BadNumber (count + 2)) _ _ _ (λ n.
-      line-end (omega (arith, leb-true (count + 1) 64 few)) k n (numerals (constantAt k) (drop 2 fs)))))))
+      line-end (omega (arith, leb-true (count + 1) 64 few)) k (eqb-true (length fs) (length (sorts k) + 2) wide) n (numerals (sorts k) (drop 2 fs)) refl)))))
 
 -- ---- the lines from a place of the text on, behind the rows that are kept
 abbrev pub prepended : List Row → Checked (List Row) → Checked (List Row)
@@ -320,9 +282,9 @@ prepended xs (ok ys) = ok (xs ++ ys)
 prepended xs (fault r) = fault r
 
 prepend-one-more : (xs : List Row) (x : Instruction) (rest : Checked (List Instruction)) →
-    prepended (xs ++ (rowOf (clamp x) ∷ [])) (kept rest) ≡ prepended xs (kept (after rest (λ ys. ok (x ∷ ys))))
+    prepended (xs ++ (clamped x ∷ [])) (kept rest) ≡ prepended xs (kept (after rest (λ ys. ok (x ∷ ys))))
 unfolding kept
-prepend-one-more xs x (ok ys) = ap ok (append-assoc xs (rowOf (clamp x) ∷ []) (map (λ y. rowOf (clamp y)) ys))
+prepend-one-more xs x (ok ys) = ap ok (append-assoc xs (clamped x ∷ []) (map clamped ys))
 prepend-one-more xs x (fault r) = refl
 
 pub lines-start : (xs : List Row) (o : Checked (List Row)) → prepended (take 0 xs) o ≡ o
@@ -376,3 +338,9 @@ pub stops-less : (x y : Row) (xs : List Row) (count : ℕ) → count < 64 → dr
 stops-less x y xs count l e =
     let m : 64 - count ≡ suc (64 - (count + 1)) = omega arith in
     drop-set-lt (count + 1) xs count y (omega arith) ∙ sym (drop-drop 1 count xs) ∙ ap (drop 1) (e ∙ ap (λ (n : ℕ). replicate n x) m)
+
+-- the numbers past those read stay 0
+pub zeros-less : (z : ℤ) (ns : List ℤ) (k : ℕ) → k < 4 → drop k ns ≡ replicate (4 - k) (pos 0) → drop (k + 1) (set ns k z) ≡ replicate (4 - (k + 1)) (pos 0)
+zeros-less z ns k l e =
+    let m : 4 - k ≡ suc (4 - (k + 1)) = omega arith in
+    drop-set-lt (k + 1) ns k z (omega arith) ∙ sym (drop-drop 1 k ns) ∙ ap (drop 1) (e ∙ ap (λ (n : ℕ). replicate n (pos 0)) m)

@@ -11,14 +11,14 @@ use lib.Dec.{leb, eqb}
 use lib.IntN.{ℤ}
 use lib.ListN.{length, getD, take, drop, length-map, List·getD-map, drop-of-length-le}
 use lib.Seq.{drop-cons, getD-take, length-take-le}
-use Rattle.model.specs.Language.{Instruction, stop, fields, instruction}
+use Rattle.model.specs.Language.{Instruction, stop, fields}
 use Rattle.text.specs.Split.{fields as split}
 use Rattle.text.specs.Number.{natural}
 use Rattle.flow.specs.Limits.{maxInstructions}
-use Rattle.flow.specs.Words.{kindOf, constantAt, built}
+use Rattle.flow.specs.Words.{kindOf, sorts, built}
 use Rattle.flow.specs.Read.{Checked, ok, fault, check, given, after, inRange, isNamed, all, numerals, readLine, readLines, lostTarget}
-use Rattle.flow.specs.Code.{row, instructionOf}
-use Rattle.flow.specs.Inner.{clamp}
+use Rattle.flow.specs.Code.{instructionOf}
+use Rattle.flow.specs.Inner.{clamped, HeadFits}
 use Rattle.flow.specs.declared.Kind.{Kind}
 use Rattle.flow.specs.declared.Refusal.{Refusal}
 use Rattle.flow.specs.declared.Refusal.the-variants.{UnknownWord, WrongCount, BadNumber, OutOfTurn, OutOfRange, TooManyLines}
@@ -48,9 +48,9 @@ pub record LineRead (h : Head) (i : ℕ) (fs : List (List ℕ)) (x : Instruction
   pub k : Kind
   pub ns : List ℤ
   pub known : kindOf (getD fs 1 []) ≡ some k
-  pub counted : length fs ≡ length (constantAt k) + 2
+  pub counted : length fs ≡ length (sorts k) + 2
   pub number : natural (getD fs 0 []) ≡ some i
-  pub numbers : numerals (constantAt k) (drop 2 fs) ≡ some ns
+  pub numbers : numerals (sorts k) (drop 2 fs) ≡ some ns
   pub fits : all (inRange h) (fields (built k ns)) ≡ true
   pub whole : built k ns ≡ x
 
@@ -58,16 +58,16 @@ pub line-read : (h : Head) (i : ℕ) (fs : List (List ℕ)) (x : Instruction) �
 unfolding readLine
 line-read h i fs x e =
     let (k, known, e₁) = given-ok (kindOf (getD fs 1 [])) (UnknownWord (i + 1)) by-kind e in
-    let (counted, e₂) = check-ok (eqb (length fs) (length (constantAt k) + 2)) (WrongCount (i + 1)) (by-number k) e₁ in
+    let (counted, e₂) = check-ok (eqb (length fs) (length (sorts k) + 2)) (WrongCount (i + 1)) (by-number k) e₁ in
     let (n, numbered, e₃) = given-ok (natural (getD fs 0 [])) (BadNumber (i + 1)) (by-numbers k) e₂ in
-    let (ns, written, e₄) = given-ok (numerals (constantAt k) (drop 2 fs)) (BadNumber (i + 1)) (by-turn k n) e₃ in
+    let (ns, written, e₄) = given-ok (numerals (sorts k) (drop 2 fs)) (BadNumber (i + 1)) (by-turn k n) e₃ in
     let (turn, e₅) = check-ok (eqb n i) (OutOfTurn (i + 1)) (by-range k ns) e₄ in
     let (fit, e₆) = check-ok (all (inRange h) (fields (built k ns))) (OutOfRange (i + 1)) (ok (built k ns)) e₅ in
     record {
       k = k;
       ns = ns;
       known = known;
-      counted = eqb-true (length fs) (length (constantAt k) + 2) counted;
+      counted = eqb-true (length fs) (length (sorts k) + 2) counted;
       number = numbered ∙ ap some (eqb-true n i turn);
       numbers = written;
       fits = fit;
@@ -81,13 +81,13 @@ line-read h i fs x e =
     by-turn k n ns = check (eqb n i) (OutOfTurn (i + 1)) (by-range k ns)
 
     by-numbers : Kind → ℕ → Checked Instruction
-    by-numbers k n = given (numerals (constantAt k) (drop 2 fs)) (BadNumber (i + 1)) (by-turn k n)
+    by-numbers k n = given (numerals (sorts k) (drop 2 fs)) (BadNumber (i + 1)) (by-turn k n)
 
     by-number : Kind → Checked Instruction
     by-number k = given (natural (getD fs 0 [])) (BadNumber (i + 1)) (by-numbers k)
 
     by-kind : Kind → Checked Instruction
-    by-kind k = check (eqb (length fs) (length (constantAt k) + 2)) (WrongCount (i + 1)) (by-number k)
+    by-kind k = check (eqb (length fs) (length (sorts k) + 2)) (WrongCount (i + 1)) (by-number k)
 
 line-fits : (h : Head) (i : ℕ) (fs : List (List ℕ)) (x : Instruction) → readLine h i fs ≡ ok x → all (inRange h) (fields x) ≡ true
 line-fits h i fs x e =
@@ -140,10 +140,10 @@ pub at-most-64 : (h : Head) (ls : List (List ℕ)) (xs : List Instruction) → r
 at-most-64 h ls xs e = omega (arith, few-lines h 1 ls xs e (omega arith))
 
 -- ---- targets
-pub lost-clamp : (n line : ℕ) → n < 255 → (xs : List Instruction) → lostTarget n line (map clamp xs) ≡ lostTarget n line xs
+pub lost-clamp : (h : Head) → HeadFits h → (n line : ℕ) → n < 255 → (xs : List Instruction) → lostTarget n line (map instructionOf (map clamped xs)) ≡ lostTarget n line xs
 unfolding lostTarget
-lost-clamp n line l [] = refl
-lost-clamp n line l (x ∷ xs) = rw (is-named-clamp n l x, lost-clamp n (suc line) l xs)
+lost-clamp h f n line l [] = refl
+lost-clamp h f n line l (x ∷ xs) = rw (is-named-clamp h f n l x, lost-clamp h f n (suc line) l xs)
 
 pub none-lost : (n line : ℕ) (xs : List Instruction) → lostTarget n line xs ≡ none → (j : ℕ) → all (isNamed n) (fields (getD xs j stop)) ≡ true
 unfolding lostTarget all

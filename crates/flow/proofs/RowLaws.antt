@@ -1,27 +1,64 @@
--- Rows and instructions. A row holds an instruction and gives it back; the tests that the code makes on a row, by its kind, are
--- those that the definition makes on the fields of its instruction. By the nine kinds, each by computation.
+-- The table of instructions, and rows. What is tried of each kind in the table's order holds of every kind: so each law on the table is
+-- one computed test. A row holds an instruction and gives it back.
 use mathlib.Core.Path.{_≡_, refl, sym, ap, _∙_}
 use mathlib.Core.Bool.{Bool, true, false, cond, _&&_}
 use mathlib.Core.Option.{Option, some}
-use mathlib.Core.List.{List, _∷_}
-use Prim.Native.Nat.{ℕ, zero, suc, _<_}
-use native.Mathlib.Omega.{arith}
-use borrow.Author.Tests.{ne-eqb}
-use lib.Dec.{leb, eqb, eqb·suc-zero, eqb·suc-suc}
-use lib.IntN.{ℤ, pos, natAbs}
-use lib.Signed.{leZ}
-use lib.ListN.{getD, replicate}
-use Rattle.model.specs.Language.{Instruction, read, put, copy, const, less, over, under, nop, stop, fields}
-use Rattle.flow.specs.Limits.{leastConstant, greatestConstant}
-use Rattle.flow.specs.Words.{constantAt, built}
-use Rattle.flow.specs.Read.{all, inRange, isNamed}
-use Rattle.flow.specs.Code.{rowOf, instructionOf}
-use Rattle.flow.specs.Inner.{small, bounded, clamp, rowBy, constantPlace, passes, leads}
+use mathlib.Core.List.{List, [], _∷_, _++_, map}
+use Prim.Native.Nat.{ℕ, zero, suc, _+_, _-_, _≤_, _<_}
+use native.Mathlib.Numerals.{add-one}
+use borrow.Author.Tests.{leb-true}
+use lib.Dec.{leb}
+use lib.IntN.{ℤ, pos}
+use lib.ListN.{length, getD, drop, replicate, drop-of-length-le}
+use lib.Seq.{drop-cons}
+use Rattle.model.specs.Language.{Instruction, read, put, copy, const, less, over, under, nop, stop, Field, fields}
+use Rattle.model.proofs.Lists.{All}
+use Rattle.text.specs.Split.{sameWord}
+use Rattle.flow.specs.Words.{table, kinds, among, kindOf, sorts, at, built, field}
+use Rattle.flow.specs.Read.{all}
+use Rattle.flow.specs.Code.{kind, numbers, row, numbersIn, rowOf, instructionOf}
+use Rattle.flow.specs.Inner.{four, placed}
 use Rattle.flow.specs.declared.Kind.{Kind}
 use Rattle.flow.specs.declared.Kind.the-variants.{Read, Put, Copy, Set, Less, Over, Under, Nop, Stop}
-use Rattle.flow.specs.declared.Head.{Head}
-use Rattle.flow.specs.declared.Instruction.{Instruction as Row}
+use Rattle.flow.specs.declared.Sort.{Sort}
+use Rattle.flow.specs.declared.Sort.the-variants.{Target}
 
+-- ---- every kind stands in the table
+every : (P : Kind → Type 0) → All P kinds → (k : Kind) → P k
+every P (h, t) Read = h
+every P (_, (h, t)) Put = h
+every P (_, (_, (h, t))) Copy = h
+every P (_, (_, (_, (h, t)))) Set = h
+every P (_, (_, (_, (_, (h, t))))) Less = h
+every P (_, (_, (_, (_, (_, (h, t)))))) Over = h
+every P (_, (_, (_, (_, (_, (_, (h, t))))))) Under = h
+every P (_, (_, (_, (_, (_, (_, (_, (h, t)))))))) Nop = h
+every P (_, (_, (_, (_, (_, (_, (_, (_, (h, t))))))))) Stop = h
+
+-- a computed test: what is the same all along the table is the same of every kind
+pub tried : {A : Type 0} (f g : Kind → A) → map f kinds ≡ map g kinds → (k : Kind) → f k ≡ g k
+tried {A} f g e = every (λ k. f k ≡ g k) (along kinds e)
+  where
+    along : (ks : List Kind) → map f ks ≡ map g ks → All (λ k. f k ≡ g k) ks
+    along [] e = tt
+    along (k ∷ ks) e = let first : f k ≡ g k = cc in let rest : map f ks ≡ map g ks = cc in (first, along ks rest)
+
+-- ---- the tests
+pub kind-built : (zs : List ℤ) (k : Kind) → kind (built k zs) ≡ k
+kind-built zs = tried (λ k. kind (built k zs)) (λ k. k) refl
+
+pub fields-built : (zs : List ℤ) (k : Kind) → fields (built k zs) ≡ placed (sorts k) zs 0
+fields-built zs = tried (λ k. fields (built k zs)) (λ k. placed (sorts k) zs 0) refl
+
+-- a kind asks for at most four numbers
+pub width-bound : (k : Kind) → length (sorts k) ≤ 4
+width-bound k = leb-true (length (sorts k)) 4 (tried (λ k. leb (length (sorts k)) 4) (λ k. true) refl k)
+
+pub word-known : (k : Kind) → kindOf (table k .word) ≡ some k
+unfolding among sameWord
+word-known = tried (λ k. kindOf (table k .word)) some refl
+
+-- ---- a row gives its instruction back
 pub row-back : (x : Instruction) → instructionOf (rowOf x) ≡ x
 row-back (read a v p m) = refl
 row-back (put v y n) = refl
@@ -33,123 +70,54 @@ row-back (under v c p m) = refl
 row-back (nop n) = refl
 row-back stop = refl
 
--- one test, and two, with nothing after them
-one : (a : Bool) → a ≡ (a && true)
-one true = refl
-one false = refl
+-- what is given past a list's end, written out
+pub getD-past : {A : Type 0} (xs : List A) (d : A) (n j : ℕ) → getD (xs ++ replicate n d) j d ≡ getD xs j d
+getD-past [] d zero j = refl
+getD-past [] d (suc n) zero = refl
+getD-past [] d (suc n) (suc j) = getD-past [] d n j
+getD-past (x ∷ xs) d n zero = refl
+getD-past (x ∷ xs) d n (suc j) = getD-past xs d n j
 
-two : (a b : Bool) → (a && b) ≡ (a && (b && true))
-two true b = one b
-two false b = refl
+-- a kind uses no number past the fourth
+pub built-row : (zs : List ℤ) (k : Kind) → built k (numbersIn (row k zs)) ≡ built k zs
+built-row zs k = tried (λ j. built j (numbersIn (row k zs))) (λ j. built j zs) refl k
 
--- a row of another kind
-abbrev of : Kind → Row → Row
-of k x = record { kind = k; a = x .a; v = x .v; c = x .c; p = x .p; m = x .m }
+-- an instruction is its kind and the numbers in its fields
+pub parts-built : (x : Instruction) → built (kind x) (numbers x) ≡ x
+parts-built x = sym (built-row (numbers x) (kind x)) ∙ row-back x
 
--- the code's tests of a row's numbers
-abbrev tested : Head → Row → Bool
-tested h x =
-    passes (x .kind) (leb 1 (x .a) && leb (x .a) (h .tapes)) (leb 1 (x .a) && leb (x .a) (h .outputs)) (leb 1 (x .a) && leb (x .a) (h .variables))
-    (leb 1 (x .v) && leb (x .v) (h .variables))
-    (leZ leastConstant (x .c) && leZ (x .c) greatestConstant)
+-- zeros behind the numbers change no row
+pub row-past : (k : Kind) (zs : List ℤ) (n : ℕ) → row k (zs ++ replicate n (pos 0)) ≡ row k zs
+row-past k zs n =
+    let e = getD-past zs (pos 0) n in
+    λ i. record { kind = k; first = e 0 i; second = e 1 i; third = e 2 i; fourth = e 3 i }
 
-in-range-row : (h : Head) (x : Row) → tested h x ≡ all (inRange h) (fields (instructionOf x))
-unfolding all
-in-range-row h x = by (x .kind)
-  where
-    by : (k : Kind) → tested h (of k x) ≡ all (inRange h) (fields (instructionOf (of k x)))
-    by Read = two (leb 1 (x .a) && leb (x .a) (h .tapes)) (leb 1 (x .v) && leb (x .v) (h .variables))
-    by Put = two (leb 1 (x .v) && leb (x .v) (h .variables)) (leb 1 (x .a) && leb (x .a) (h .outputs))
-    by Copy = two (leb 1 (x .a) && leb (x .a) (h .variables)) (leb 1 (x .v) && leb (x .v) (h .variables))
-    by Set = two (leZ leastConstant (x .c) && leZ (x .c) greatestConstant) (leb 1 (x .v) && leb (x .v) (h .variables))
-    by Less = two (leb 1 (x .a) && leb (x .a) (h .variables)) (leb 1 (x .v) && leb (x .v) (h .variables))
-    by Over = two (leZ leastConstant (x .c) && leZ (x .c) greatestConstant) (leb 1 (x .v) && leb (x .v) (h .variables))
-    by Under = two (leb 1 (x .v) && leb (x .v) (h .variables)) (leZ leastConstant (x .c) && leZ (x .c) greatestConstant)
-    by Nop = refl
-    by Stop = refl
-
-pub in-range-tests : (h : Head) (x : Row) {t o f v c : Bool} → t ≡ (leb 1 (x .a) && leb (x .a) (h .tapes)) → o ≡ (leb 1 (x .a) && leb (x .a) (h .outputs))
-    → f ≡ (leb 1 (x .a) && leb (x .a) (h .variables)) → v ≡ (leb 1 (x .v) && leb (x .v) (h .variables))
-    → c ≡ (leZ leastConstant (x .c) && leZ (x .c) greatestConstant) → passes (x .kind) t o f v c ≡ all (inRange h) (fields (instructionOf x))
-in-range-tests h x et eo ef ev ec = rw (et, eo, ef, ev, ec) (in-range-row h x)
-
--- the code's tests of a row's targets
-abbrev led : ℕ → Row → Bool
-led n x = leads (x .kind) (leb 1 (x .p) && leb (x .p) n) (leb 1 (x .m) && leb (x .m) n)
-
-is-named-row : (n : ℕ) (x : Row) → led n x ≡ all (isNamed n) (fields (instructionOf x))
-unfolding all
-is-named-row n x = by (x .kind)
-  where
-    p : Bool
-    p = leb 1 (x .p) && leb (x .p) n
-
-    m : Bool
-    m = leb 1 (x .m) && leb (x .m) n
-
-    by : (k : Kind) → led n (of k x) ≡ all (isNamed n) (fields (instructionOf (of k x)))
-    by Read = two p m
-    by Put = one p
-    by Copy = one p
-    by Set = one p
-    by Less = two p m
-    by Over = two p m
-    by Under = two p m
-    by Nop = one p
-    by Stop = refl
-
-pub is-named-tests : (n : ℕ) (x : Row) {p m : Bool} → p ≡ (leb 1 (x .p) && leb (x .p) n) → m ≡ (leb 1 (x .m) && leb (x .m) n)
-    → leads (x .kind) p m ≡ all (isNamed n) (fields (instructionOf x))
-is-named-tests n x ep em = rw (ep, em) (is-named-row n x)
-
--- the field that may have a minus is the constant among the fields after the word
-none-there : (n k : ℕ) → getD (replicate n false) k false ≡ false
-none-there zero k = refl
-none-there (suc n) zero = refl
-none-there (suc n) (suc k) = none-there n k
-
-first-there : (n k : ℕ) → eqb k 0 ≡ getD (true ∷ replicate n false) k false
-first-there n zero = refl
-first-there n (suc k) = rw (eqb·suc-zero k, none-there n k)
-
-second-there : (n k : ℕ) → eqb k 1 ≡ getD (false ∷ true ∷ replicate n false) k false
-second-there n zero = refl
-second-there n (suc k) = rw (eqb·suc-suc k 0) (first-there n k)
-
-pub constant-place : (kind : Kind) (k : ℕ) → k < 4 → eqb k (constantPlace kind) ≡ getD (constantAt kind) k false
-constant-place Read k l = ne-eqb k 4 (λ e. omega arith) ∙ sym (none-there 4 k)
-constant-place Put k l = ne-eqb k 4 (λ e. omega arith) ∙ sym (none-there 3 k)
-constant-place Copy k l = ne-eqb k 4 (λ e. omega arith) ∙ sym (none-there 3 k)
-constant-place Set k l = first-there 2 k
-constant-place Less k l = ne-eqb k 4 (λ e. omega arith) ∙ sym (none-there 4 k)
-constant-place Over k l = first-there 3 k
-constant-place Under k l = second-there 2 k
-constant-place Nop k l = ne-eqb k 4 (λ e. omega arith) ∙ sym (none-there 1 k)
-constant-place Stop k l = ne-eqb k 4 (λ e. omega arith) ∙ sym (none-there 0 k)
+-- the sort of field k, from the four that the code holds
+pub sort-there : (ss : List Sort) (k : ℕ) → getD (four ss) k Target ≡ getD ss k Target
+sort-there ss k = getD-past ss Target (4 - length ss) k
 
 -- one word more in front of those tried already
 pub word-more : (k : Kind) (t : Bool) {a o rest : Option Kind} → a ≡ cond t (some k) o → o ≡ rest → a ≡ cond t (some k) rest
 word-more k t e f = e ∙ ap (cond t (some k)) f
 
--- the row that the code makes from the numbers of a line
-pub built-row : (k : Kind) (ns : List ℤ) {x y z m : ℕ} {c d : ℤ} → x ≡ small (natAbs (getD ns 0 (pos 0))) → y ≡ small (natAbs (getD ns 1 (pos 0)))
-    → z ≡ small (natAbs (getD ns 2 (pos 0))) → m ≡ small (natAbs (getD ns 3 (pos 0))) → c ≡ bounded (getD ns 0 (pos 0)) → d ≡ bounded (getD ns 1 (pos 0))
-    → rowBy k x y z m c d ≡ rowOf (clamp (built k ns))
-built-row k ns {x} {y} {z} {m} {c} {d} ex ey ez em ec ed = rw (ex, ey, ez, em, ec, ed) (by k)
-  where
-    at : ℕ → ℤ
-    at j = getD ns j (pos 0)
+-- ---- the fields of a row, tried one by one: those from k on
+module _ (test : Field → Bool) (ss : List Sort) (ns : List ℤ) where
+  abbrev pub tested : ℕ → Bool
+  tested k = all test (placed (drop k ss) ns k)
 
-    n : ℕ → ℕ
-    n j = small (natAbs (at j))
+  abbrev pub holds : ℕ → Bool
+  holds k = test (field (getD ss k Target) (at ns k))
 
-    by : (k : Kind) → rowBy k (n 0) (n 1) (n 2) (n 3) (bounded (at 0)) (bounded (at 1)) ≡ rowOf (clamp (built k ns))
-    by Read = refl
-    by Put = refl
-    by Copy = refl
-    by Set = refl
-    by Less = refl
-    by Over = refl
-    by Under = refl
-    by Nop = refl
-    by Stop = refl
+  one-tested : (k : ℕ) → k < length ss → tested k ≡ (holds k && tested (k + 1))
+  unfolding all
+  one-tested k l = rw (drop-cons ss k Target l, add-one k)
+
+  pub test-fails : (k : ℕ) → k < length ss → holds k ≡ false → false ≡ tested k
+  test-fails k l e = rw (one-tested k l, e)
+
+  pub test-holds : (k : ℕ) → k < length ss → holds k ≡ true → tested (k + 1) ≡ tested k
+  test-holds k l e = rw (one-tested k l, e)
+
+  pub tests-end : (k : ℕ) → length ss ≤ k → true ≡ tested k
+  unfolding all
+  tests-end k l = rw (drop-of-length-le ss l)

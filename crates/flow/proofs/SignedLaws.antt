@@ -1,6 +1,6 @@
 -- Numbers of 64 bits as the code computes with them. A signed local holds bits, so each use of it reads `toZ w64 (ofZ w64 z)`.
-use mathlib.Core.Path.{_≡_, _∙_}
-use mathlib.Core.Bool.{true, false, true≢false}
+use mathlib.Core.Path.{_≡_, refl, sym, ap, _∙_}
+use mathlib.Core.Bool.{Bool, true, false, cond, true≢false}
 use Prim.Native.Nat.{suc, _-_, _≤_, _<_, _^_}
 use native.Mathlib.Omega.{arith}
 use borrow.Author.Tests.{le-ltb, ltb-true, ltb-false}
@@ -10,6 +10,9 @@ use lib.Signed.{ltZ, nonNeg}
 use mir.Syntax.{w32, w64}
 use mir.Val.{SFits, toZ, ofZ}
 use mir.Facts.{toZ-ofZ}
+use Rattle.flow.specs.Words.{mayMinus, count, field, number}
+use Rattle.flow.specs.declared.Sort.{Sort}
+use Rattle.flow.proofs.SortLaws.{number-field}
 
 -- what the code computes for a number below 0: -1 - z
 below-zero : (z : ℤ) → ltZ z (pos 0) ≡ true → (negsuc 0 -ℤ z ≡ pos (natAbs z - 1)) × (0 < natAbs z)
@@ -48,3 +51,30 @@ module _ (z : ℤ) (f : SFits w64 z) where
 pub bounded-fits : (z : ℤ) → ltZ z (negsuc 99999) ≡ false → ltZ (pos 100000) z ≡ false → SFits w32 z
 bounded-fits (pos n) h k = record { sfits = omega (arith, ltb-false 100000 n k) }
 bounded-fits (negsuc n) h k = record { sfits = omega (arith, ltb-false 99999 n h) }
+
+-- a number below 0 counts as 0; one that counts from 1 is its size, which fits 31 bits
+counts-none : (z : ℤ) → ltZ z (pos 0) ≡ true → 0 ≡ count z
+counts-none (pos n) h = absurd (omega (arith, ltb-true n 0 h))
+counts-none (negsuc n) h = refl
+
+pub counts-from : (z : ℤ) → SFits w32 z → 1 ≤ count z → T (nonNeg z) × (natAbs z ≡ count z) × (natAbs z < 2 ^ 31)
+counts-from (pos n) f h = (tt, refl, omega arith)
+counts-from (negsuc n) f h = absurd (omega arith)
+
+-- the number in a field, by what the code tests
+module _ (s : Sort) (z : ℤ) where
+  pub held-signed : mayMinus s ≡ true → z ≡ number (field s z)
+  held-signed e = sym (number-field z s ∙ ap (λ (b : Bool). cond b z (pos (count z))) e)
+
+  held-counted : mayMinus s ≡ false → pos (count z) ≡ number (field s z)
+  held-counted e = sym (number-field z s ∙ ap (λ (b : Bool). cond b z (pos (count z))) e)
+
+  pub held-none : mayMinus s ≡ false → ltZ z (pos 0) ≡ true → pos 0 ≡ number (field s z)
+  held-none e h = ap pos (counts-none z h) ∙ held-counted e
+
+  pub held-some : mayMinus s ≡ false → ltZ z (pos 0) ≡ false → z ≡ number (field s z)
+  held-some e h = itself z h ∙ held-counted e
+    where
+      itself : (z : ℤ) → ltZ z (pos 0) ≡ false → z ≡ pos (count z)
+      itself (pos n) h = refl
+      itself (negsuc n) h = absurd (true≢false h)

@@ -1,14 +1,15 @@
 -- The text of a legal flow keeps to the limit of bytes: no field has more than 5 bytes and no line more than 6 fields.
-use mathlib.Core.Path.{_≡_}
-use mathlib.Core.Bool.{true, _&&_}
+use mathlib.Core.Path.{_≡_, refl, ap}
+use mathlib.Core.Bool.{true}
 use mathlib.Core.List.{List, [], _∷_, map}
 use Prim.Native.Nat.{ℕ, suc, _+_, _*_, _≤_}
 use native.Mathlib.Omega.{arith}
 use borrow.Author.Tests.{leb-true}
 use lib.Dec.{leb}
-use lib.IntN.{pos, negsuc}
+use lib.IntN.{ℤ, pos, negsuc}
 use lib.ListN.{length, getD, length-append, length-map}
-use Rattle.model.specs.Language.{Instruction, read, put, copy, const, less, over, under, nop, stop, Flow, Field, tape, output, variable, target, constant, fields}
+use Rattle.model.specs.Language.{Instruction, stop, Flow, Field, fields}
+use Rattle.model.proofs.Integers.{zarith}
 use Rattle.text.specs.Write.{decimal, signed, parted, ended}
 use Rattle.text.proofs.Joined.{Each}
 use Rattle.text.proofs.Decimal.{decimal-short}
@@ -16,30 +17,26 @@ use Rattle.flow.specs.Limits.{maxBytes}
 use Rattle.flow.specs.Read.{inRange, isNamed, all}
 use Rattle.flow.specs.Legal.{Legal, head}
 use Rattle.flow.specs.Inner.{HeadFits}
-use Rattle.flow.specs.Write.{word, number, numbers, headFields, lineFields, linesFrom, writeFlow}
+use Rattle.flow.specs.Words.{table, sorts, number}
+use Rattle.flow.specs.Code.{kind, numbers}
+use Rattle.flow.specs.Write.{word, headFields, lineFields, linesFrom, writeFlow}
 use Rattle.flow.specs.declared.Head.{Head}
-use Rattle.flow.proofs.ClampLaws.{and-split}
+use Rattle.flow.proofs.RowLaws.{tried, width-bound}
+use Rattle.flow.proofs.Tests.{and-split}
+use Rattle.flow.proofs.ClampLaws.{FourDigits, field-digits}
+use Rattle.flow.proofs.WriteLineLaws.{fields-placed, placed-length}
 use Rattle.flow.proofs.ReadLaws.{AllFit}
 
 pub head-fit : (flow : Flow) → Legal flow → HeadFits (head flow)
 head-fit flow l = record { tapes = l .tapes; outputs = l .outputs; variables = l .variables }
 
-small : (n : ℕ) → n ≤ 1000 → length (decimal n) ≤ 4
+small : (n : ℕ) → n ≤ 9999 → length (decimal n) ≤ 4
 small n l = decimal-short 3 n (omega arith)
 
-counted : (k hi : ℕ) → hi ≤ 64 → (leb 1 k && leb k hi) ≡ true → length (decimal k) ≤ 5
-counted k hi l e = let (a, b) = and-split (leb 1 k) (leb k hi) e in omega (arith, small k (omega (arith, leb-true k hi b)))
-
 word-short : (x : Instruction) → (length (word x) ≤ 5) × (length (fields x) ≤ 4)
-word-short (read a v p m) = omega arith
-word-short (put v y n) = omega arith
-word-short (copy u v n) = omega arith
-word-short (const c v n) = omega arith
-word-short (less u v p m) = omega arith
-word-short (over c v p m) = omega arith
-word-short (under v c p m) = omega arith
-word-short (nop n) = omega arith
-word-short stop = omega arith
+word-short x =
+    let short = leb-true (length (word x)) 5 (tried (λ k. leb (length (table k .word)) 5) (λ k. true) refl (kind x)) in
+    (short, omega (arith, ap length (fields-placed x), placed-length (sorts (kind x)) (numbers x) 0, width-bound (kind x)))
 
 -- at most 5 bytes
 abbrev Short : List ℕ → Type 0
@@ -54,14 +51,11 @@ parted-short (f ∷ g ∷ fs) (p, q) = omega (arith, length-append f (44 ∷ par
 -- h has the counts of line 1, and there are n instructions
 module _ (h : Head) (f : HeadFits h) (n : ℕ) (few : n ≤ 64) where
   number-short : (x : Field) → inRange h x ≡ true → isNamed n x ≡ true → Short (signed (number x))
-  number-short (tape k) r s = counted k (h .tapes) (omega arith) r
-  number-short (output k) r s = counted k (h .outputs) (omega arith) r
-  number-short (variable k) r s = counted k (h .variables) (omega arith) r
-  number-short (target k) r s = counted k n few s
-  number-short (constant (pos k)) r s = omega (arith, small k (leb-true k 1000 r))
-  number-short (constant (negsuc k)) r s =
-      let (low, high) = and-split (leb k 999) true r in
-      omega (arith, small (suc k) (omega (arith, leb-true k 999 low)))
+  number-short x r s = by (number x) (field-digits h f n (omega arith) x r s)
+    where
+      by : (z : ℤ) → FourDigits z → Short (signed z)
+      by (pos k) (low, high) = omega (arith, small k (omega (zarith, high)))
+      by (negsuc k) (low, high) = omega (arith, small (suc k) (omega (zarith, low)))
 
   numbers-short : (fs : List Field) → all (inRange h) fs ≡ true → all (isNamed n) fs ≡ true → Each Short (map signed (map number fs))
   unfolding all

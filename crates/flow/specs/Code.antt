@@ -1,10 +1,11 @@
 -- How the code holds a flow: a row for each instruction, in the order of the lines, and rows of `stop` up to 64.
-use mathlib.Core.List.{[], _++_, map}
-use Prim.Native.Nat.{ℕ, _-_}
-use lib.IntN.{ℤ, pos}
+use mathlib.Core.List.{List, [], _∷_, _++_, map}
+use Prim.Native.Nat.{_-_}
+use lib.IntN.{ℤ}
 use lib.ListN.{length, replicate, take}
-use Rattle.model.specs.Language.{Instruction, read, put, copy, const, less, over, under, nop, stop, Flow}
+use Rattle.model.specs.Language.{Instruction, read, put, copy, const, less, over, under, nop, stop, Flow, fields}
 use Rattle.flow.specs.Limits.{maxInstructions}
+use Rattle.flow.specs.Words.{number, at, built}
 use Rattle.flow.specs.Read.{Checked, ok, fault}
 use Rattle.flow.specs.declared.Kind.{Kind}
 use Rattle.flow.specs.declared.Kind.the-variants.{Read, Put, Copy, Set, Less, Over, Under, Nop, Stop}
@@ -13,36 +14,35 @@ use Rattle.flow.specs.declared.Flow.{Flow as Rows}
 use Rattle.flow.specs.declared.Answer.the-variants.{Legal, Refused}
 use Rattle.flow.specs.declared.Reading.{Reading}
 
--- a row: the kind, a tape, output or first variable, the variable, the constant, and the targets
-abbrev pub row : Kind → (a v : ℕ) → ℤ → (p m : ℕ) → Row
-row k a v c p m = record { kind = k; a = a; v = v; c = c; p = p; m = m }
+-- the kind of an instruction
+abbrev pub kind : Instruction → Kind
+kind (read a v p m) = Read
+kind (put v y n) = Put
+kind (copy u v n) = Copy
+kind (const c v n) = Set
+kind (less u v p m) = Less
+kind (over c v p m) = Over
+kind (under v c p m) = Under
+kind (nop n) = Nop
+kind stop = Stop
 
--- the row of an instruction
+-- the numbers after the word, in the order of the line
+abbrev pub numbers : Instruction → List ℤ
+numbers x = map number (fields x)
+
+-- a row is a line: the kind, and the numbers after the word in their order, 0 past the last
+abbrev pub row : Kind → List ℤ → Row
+row k zs = record { kind = k; first = at zs 0; second = at zs 1; third = at zs 2; fourth = at zs 3 }
+
+abbrev pub numbersIn : Row → List ℤ
+numbersIn x = x .first ∷ x .second ∷ x .third ∷ x .fourth ∷ []
+
+-- the row of an instruction, and the instruction of a row
 abbrev pub rowOf : Instruction → Row
-rowOf (read a v p m) = row Read a v (pos 0) p m
-rowOf (put v y n) = row Put y v (pos 0) n 0
-rowOf (copy u v n) = row Copy u v (pos 0) n 0
-rowOf (const c v n) = row Set 0 v c n 0
-rowOf (less u v p m) = row Less u v (pos 0) p m
-rowOf (over c v p m) = row Over 0 v c p m
-rowOf (under v c p m) = row Under 0 v c p m
-rowOf (nop n) = row Nop 0 0 (pos 0) n 0
-rowOf stop = row Stop 0 0 (pos 0) 0 0
+rowOf x = row (kind x) (numbers x)
 
--- the instruction of a row
 abbrev pub instructionOf : Row → Instruction
-instructionOf x = by (x .kind)
-  where
-    by : Kind → Instruction
-    by Read = read (x .a) (x .v) (x .p) (x .m)
-    by Put = put (x .v) (x .a) (x .p)
-    by Copy = copy (x .a) (x .v) (x .p)
-    by Set = const (x .c) (x .v) (x .p)
-    by Less = less (x .a) (x .v) (x .p) (x .m)
-    by Over = over (x .c) (x .v) (x .p) (x .m)
-    by Under = under (x .v) (x .c) (x .p) (x .m)
-    by Nop = nop (x .p)
-    by Stop = stop
+instructionOf x = built (x .kind) (numbersIn x)
 
 -- a flow as the code holds it; a faulty text comes with the empty one
 unfoldable pub rowsOf : Flow → Rows

@@ -1,59 +1,99 @@
--- The word of an instruction line, and the fields that it asks for (document 01, the table of instructions).
+-- The table of instructions (document 01): the word of a line, what each field after the word names, and the instruction that they make.
+-- All that depends on the kind of an instruction in a text is read off this table.
 use mathlib.Core.Bool.{Bool, true, false, cond}
 use mathlib.Core.List.{List, [], _∷_}
 use mathlib.Core.Option.{Option, none, some}
 use Prim.Native.Nat.{ℕ}
-use lib.IntN.{ℤ, pos, natAbs}
+use Prim.Native.String.{String}
+use lib.IntN.{ℤ, pos, negsuc}
 use lib.ListN.{getD}
-use Rattle.model.specs.Language.{Instruction, read, put, copy, const, less, over, under, nop, stop}
+use Rattle.model.specs.Language.{Instruction, read, put, copy, const, less, over, under, nop, stop, hasExits, Field, tape, output, variable, target, constant}
 use Rattle.text.specs.Split.{sameWord}
 use Rattle.text.specs.Bytes.{bytes}
 use Rattle.flow.specs.declared.Kind.{Kind}
 use Rattle.flow.specs.declared.Kind.the-variants.{Read, Put, Copy, Set, Less, Over, Under, Nop, Stop}
+use Rattle.flow.specs.declared.Sort.{Sort}
+use Rattle.flow.specs.declared.Sort.the-variants.{Tape, Output, Variable, Target, Constant}
 
--- the kind of instruction that a word names
-unfoldable pub kindOf : List ℕ → Option Kind
-kindOf w =
-    cond (sameWord w (bytes "read")) (some Read)
-    (cond (sameWord w (bytes "put")) (some Put)
-    (cond (sameWord w (bytes "copy")) (some Copy)
-    (cond (sameWord w (bytes "set")) (some Set)
-    (cond (sameWord w (bytes "less")) (some Less)
-    (cond (sameWord w (bytes "over")) (some Over)
-    (cond (sameWord w (bytes "under")) (some Under)
-    (cond (sameWord w (bytes "nop")) (some Nop)
-    (cond (sameWord w (bytes "stop")) (some Stop)
-    none))))))))
+-- a line of the table: the word, the sorts of the fields after it, and the instruction of the numbers in them: n 0, n 1, .. as counts,
+-- z 0, z 1, .. as constants
+pub record Form : Type 0 where
+  pub word : List ℕ
+  pub sorts : List Sort
+  pub make : (n : ℕ → ℕ) (z : ℕ → ℤ) → Instruction
 
--- the fields after the word, in order; of each, whether it is a constant, which alone may have a minus
-abbrev pub constantAt : Kind → List Bool
-constantAt Read = false ∷ false ∷ false ∷ false ∷ []
-constantAt Put = false ∷ false ∷ false ∷ []
-constantAt Copy = false ∷ false ∷ false ∷ []
-constantAt Set = true ∷ false ∷ false ∷ []
-constantAt Less = false ∷ false ∷ false ∷ false ∷ []
-constantAt Over = true ∷ false ∷ false ∷ false ∷ []
-constantAt Under = false ∷ true ∷ false ∷ false ∷ []
-constantAt Nop = false ∷ []
-constantAt Stop = []
+abbrev pub form : String → List Sort → ((n : ℕ → ℕ) (z : ℕ → ℤ) → Instruction) → Form
+form word sorts make = record { word = bytes word; sorts = sorts; make = make }
+
+-- the table, and its order
+abbrev pub table : Kind → Form
+table Read = form "read" (Tape ∷ Variable ∷ Target ∷ Target ∷ []) (λ n z. read (n 0) (n 1) (n 2) (n 3))
+table Put = form "put" (Variable ∷ Output ∷ Target ∷ []) (λ n z. put (n 0) (n 1) (n 2))
+table Copy = form "copy" (Variable ∷ Variable ∷ Target ∷ []) (λ n z. copy (n 0) (n 1) (n 2))
+table Set = form "set" (Constant ∷ Variable ∷ Target ∷ []) (λ n z. const (z 0) (n 1) (n 2))
+table Less = form "less" (Variable ∷ Variable ∷ Target ∷ Target ∷ []) (λ n z. less (n 0) (n 1) (n 2) (n 3))
+table Over = form "over" (Constant ∷ Variable ∷ Target ∷ Target ∷ []) (λ n z. over (z 0) (n 1) (n 2) (n 3))
+table Under = form "under" (Variable ∷ Constant ∷ Target ∷ Target ∷ []) (λ n z. under (n 0) (z 1) (n 2) (n 3))
+table Nop = form "nop" (Target ∷ []) (λ n z. nop (n 0))
+table Stop = form "stop" [] (λ n z. stop)
+
+abbrev pub kinds : List Kind
+kinds = Read ∷ Put ∷ Copy ∷ Set ∷ Less ∷ Over ∷ Under ∷ Nop ∷ Stop ∷ []
+
+-- the first of some kinds whose word it is, and the kind that a word names
+unfoldable pub among : List Kind → List ℕ → Option Kind
+among [] w = none
+among (k ∷ ks) w = cond (sameWord w (table k .word)) (some k) (among ks w)
+
+abbrev pub kindOf : List ℕ → Option Kind
+kindOf w = among kinds w
+
+-- the sorts of the fields after the word; only a constant may have a minus
+abbrev pub sorts : Kind → List Sort
+sorts k = table k .sorts
+
+abbrev pub mayMinus : Sort → Bool
+mayMinus Tape = false
+mayMinus Output = false
+mayMinus Variable = false
+mayMinus Target = false
+mayMinus Constant = true
+
+-- a number that counts, and the number in place j
+abbrev pub count : ℤ → ℕ
+count (pos n) = n
+count (negsuc n) = 0
+
+abbrev pub at : List ℤ → ℕ → ℤ
+at zs j = getD zs j (pos 0)
 
 -- the instruction of a kind, from the numbers after the word
 abbrev pub built : Kind → List ℤ → Instruction
-built k numbers = by k
-  where
-    z : ℕ → ℤ
-    z j = getD numbers j (pos 0)
+built k zs = table k .make (λ j. count (at zs j)) (at zs)
 
-    n : ℕ → ℕ
-    n j = natAbs (z j)
+-- whether the instructions of a kind have two exits
+abbrev pub branches : Kind → Bool
+branches k = hasExits (built k [])
 
-    by : Kind → Instruction
-    by Read = read (n 0) (n 1) (n 2) (n 3)
-    by Put = put (n 0) (n 1) (n 2)
-    by Copy = copy (n 0) (n 1) (n 2)
-    by Set = const (z 0) (n 1) (n 2)
-    by Less = less (n 0) (n 1) (n 2) (n 3)
-    by Over = over (z 0) (n 1) (n 2) (n 3)
-    by Under = under (n 0) (z 1) (n 2) (n 3)
-    by Nop = nop (n 0)
-    by Stop = stop
+-- the field of a sort that holds a number
+abbrev pub field : Sort → ℤ → Field
+field Tape z = tape (count z)
+field Output z = output (count z)
+field Variable z = variable (count z)
+field Target z = target (count z)
+field Constant z = constant z
+
+-- the sort of a field, and the number in it
+abbrev pub sort : Field → Sort
+sort (tape n) = Tape
+sort (output n) = Output
+sort (variable n) = Variable
+sort (target n) = Target
+sort (constant c) = Constant
+
+abbrev pub number : Field → ℤ
+number (tape n) = pos n
+number (output n) = pos n
+number (variable n) = pos n
+number (target n) = pos n
+number (constant c) = c

@@ -2,23 +2,21 @@
 //
 // The limits stand in `Flow`, and nowhere else in the code. `read` is the reader: what it answers is what `readFlow` of
 // specs/Read.antt says of the text.
-mod words; // words.rt: the word of a line, and the fields that it asks for
+pub mod words; // words.rt: the word of a line, and the fields that it asks for
 mod rows; // rows.rt: an instruction from the numbers of its line, and its ranges
 mod line; // line.rt: one instruction line
 mod lines; // lines.rt: line 1, the instruction lines, the targets
 pub mod lent; // lent.rt: an instruction fetched from a lent slice, and stored there
 
 ghost use mathlib.Core.Path.{_≡_};
-ghost use mathlib.Core.Bool.{_&&_};
-ghost use Prim.Native.Nat.{_≤_};
+ghost use Prim.Native.Nat.{_≤_, _<_};
 ghost use lib.ListN.{length, drop};
-ghost use lib.Signed.{leZ};
-ghost use Rattle.flow.specs.Limits.{leastConstant, greatestConstant};
 ghost use Rattle.flow.specs.Refusals.{numberOf, placeOf};
 ghost use Rattle.model.specs.Language.{stop};
 ghost use Rattle.text.specs.Split.{lines};
 ghost use Rattle.flow.specs.Read.{headOf, readRest, readFlow, fault};
-ghost use Rattle.flow.specs.Code.{row, rowOf, readingOf, rowsOf, noFlow};
+ghost use Rattle.flow.specs.Words.{count as counted, at};
+ghost use Rattle.flow.specs.Code.{row, rowOf, numbersIn, readingOf, rowsOf, noFlow};
 ghost use Rattle.flow.specs.Inner.{headIn, finished, HeadFits};
 use lines::Targets;
 
@@ -35,14 +33,22 @@ pub enum Kind {
     Stop,
 }
 
-// An instruction, kept whole: its kind, a tape, output or first variable, the variable, the constant, and where it goes on.
+// What a field after the word names.
+pub enum Sort {
+    Target,
+    Tape,
+    Output,
+    Variable,
+    Constant,
+}
+
+// An instruction, kept whole: the kind of its line, and the numbers after the word in their order; 0 past the last.
 pub struct Instruction {
     pub kind: Kind,
-    pub a: u8,
-    pub v: u8,
-    pub c: i32,
-    pub p: u8,
-    pub m: u8,
+    pub first: i32,
+    pub second: i32,
+    pub third: i32,
+    pub fourth: i32,
 }
 
 // The counts of line 1: input tapes, output tapes, inner variables.
@@ -162,7 +168,7 @@ impl Flow {
     pub const GREATEST_CONSTANT: i32 = 1000;
 
     // The counts of line 1, if they lie in their ranges.
-    pub fn head(tapes: u8, outputs: u8, variables: u8) -> Headed
+    fn head(tapes: u8, outputs: u8, variables: u8) -> Headed
         ensures { λ r. ⌜ headIn r ≡ headOf tapes outputs variables ⌝ }
     {
         let t = (1 <= tapes) & (tapes <= Flow::MAX_TAPES);
@@ -178,19 +184,8 @@ impl Flow {
         Headed::Fault(Refusal::OutOfRange(1))
     }
 
-    // Whether a constant lies in its range.
-    pub fn is_constant(c: i32) -> bool
-        ensures { λ r. ⌜ r ≡ (leZ leastConstant c && leZ c greatestConstant) ⌝ }
-    {
-        (Flow::LEAST_CONSTANT <= c) & (c <= Flow::GREATEST_CONSTANT)
-    }
-
     // A flow with the counts of line 1 and some instructions.
-    pub fn new(
-        head: Head,
-        count: usize,
-        instructions: [Instruction; Flow::MAX_INSTRUCTIONS],
-    ) -> Self
+    fn new(head: Head, count: usize, instructions: [Instruction; Flow::MAX_INSTRUCTIONS]) -> Self
         ensures { λ r. ⌜ r ≡ record { tapes = head .tapes; outputs = head .outputs; variables = head .variables; count = count; instructions = instructions } ⌝ }
     {
         Flow {
@@ -202,23 +197,8 @@ impl Flow {
         }
     }
 
-    // The flow with its instructions fetched into an array of its own, for a loop that indexes them.
-    pub fn fetched(self) -> Self
-        ensures { λ r. ⌜ r ≡ self ⌝ }
-    {
-        let rows = self.instructions;
-        let instructions = lent::fetched(rows);
-        Flow {
-            tapes: self.tapes,
-            outputs: self.outputs,
-            variables: self.variables,
-            count: self.count,
-            instructions,
-        }
-    }
-
     // A flow with nothing in it.
-    pub fn empty() -> Self
+    fn empty() -> Self
         ensures { λ r. ⌜ r ≡ rowsOf noFlow ⌝ }
     {
         Flow::new(
@@ -234,24 +214,64 @@ impl Flow {
 }
 
 impl Instruction {
-    pub fn new(kind: Kind, a: u8, v: u8, c: i32, p: u8, m: u8) -> Self
-        ensures { λ r. ⌜ r ≡ row kind a v c p m ⌝ }
+    pub const MAX_NUMBERS: usize = 4;
+
+    // An instruction of a kind, from the numbers after the word.
+    fn new(kind: Kind, numbers: [i32; Instruction::MAX_NUMBERS]) -> Self
+        ensures { λ r. ⌜ r ≡ row kind numbers ⌝ }
     {
         Instruction {
             kind,
-            a,
-            v,
-            c,
-            p,
-            m,
+            first: numbers[0],
+            second: numbers[1],
+            third: numbers[2],
+            fourth: numbers[3],
         }
     }
 
     // `stop`, which also fills the rows past the last instruction.
-    pub fn stop() -> Self
+    fn stop() -> Self
         ensures { λ r. ⌜ r ≡ rowOf stop ⌝ }
     {
-        Instruction::new(Kind::Stop, 0, 0, 0, 0, 0)
+        Instruction {
+            kind: Kind::Stop,
+            first: 0,
+            second: 0,
+            third: 0,
+            fourth: 0,
+        }
+    }
+
+    // Its numbers, for a loop over the fields of its line.
+    fn numbers(self) -> [i32; Instruction::MAX_NUMBERS]
+        ensures { λ r. ⌜ r ≡ numbersIn self ⌝ }
+    {
+        [self.first, self.second, self.third, self.fourth]
+    }
+
+    // The number in field k after the word.
+    pub fn number(self, k: usize) -> i32
+        requires { ⌜ k < 4 ⌝ }
+        ensures { λ r. ⌜ r ≡ at (numbersIn self) k ⌝ }
+    {
+        if k == 0 {
+            return self.first;
+        }
+        if k == 1 {
+            return self.second;
+        }
+        if k == 2 {
+            return self.third;
+        }
+        self.fourth
+    }
+
+    // The same, of a number that counts from 1.
+    pub fn count(self, k: usize) -> usize
+        requires { ⌜ (k < 4) × (1 ≤ counted (at (numbersIn self) k)) ⌝ }
+        ensures { λ r. ⌜ r ≡ counted (at (numbersIn self) k) ⌝ }
+    {
+        self.number(k) as usize
     }
 }
 

@@ -1,13 +1,15 @@
 // One instruction line: what it shows before the numbers after its word, one of these numbers, and the checks once all are read.
 ghost use mathlib.Core.Path.{_≡_};
-ghost use mathlib.Core.Bool.{false};
 ghost use mathlib.Core.List.{[]};
 ghost use Prim.Native.Nat.{_+_, _≤_, _<_};
 ghost use lib.ListN.{getD};
 ghost use Rattle.text.specs.Split.{fields};
+ghost use Rattle.text.specs.Divided.{kept, Divided};
 ghost use Rattle.text.specs.Number.{numeral};
 ghost use Rattle.text.specs.Capped.{numberOf};
-ghost use Rattle.flow.specs.Words.{constantAt};
+ghost use Rattle.flow.specs.Words.{sorts, mayMinus};
+ghost use Rattle.flow.specs.declared.Sort.the-variants.{Target};
+ghost use Rattle.flow.specs.Code.{row};
 ghost use Rattle.flow.specs.Line.{smallIn, smallAt, begunIn, beginLine, endedIn, endLine};
 use crate::Flow;
 use crate::Head;
@@ -17,6 +19,7 @@ use crate::Refusal;
 use crate::rows;
 use crate::words;
 use crate::words::Word;
+use text::Fields;
 use text::Number;
 
 // A number without a minus, as a byte keeps it, if it is well written.
@@ -26,10 +29,12 @@ pub enum Small {
 }
 
 // Such a number in field k.
-pub fn small_at(line: &[u8], k: usize) -> Small
+pub fn small_at(line: &[u8], cut: Fields, k: usize) -> Small
+    requires { ⌜ Divided (now line) (cut .count) (cut .ends) × (k < kept) ⌝ }
     ensures { λ r. ⌜ smallIn r ≡ smallAt (fields (now (line .entry))) k ⌝ }
 {
-    let Number::Value(x) = text::read_number(text::field(line, k), false) else {
+    let ends = cut.ends;
+    let Number::Value(x) = text::read_number(text::field(line, ends, cut.count, k), false) else {
         return Small::Bad;
     };
     Small::Value(rows::small(x))
@@ -48,50 +53,59 @@ pub enum Begun {
 }
 
 // The checks before the numbers after the word, on the line after `count` instructions.
-pub fn begin(line: &[u8], count: usize) -> Begun
+pub fn begin(line: &[u8], cut: Fields, count: usize) -> Begun
     requires { ⌜ count ≤ 64 ⌝ }
+    requires { ⌜ Divided (now line) (cut .count) (cut .ends) ⌝ }
     ensures { λ r. ⌜ begunIn r ≡ beginLine count (fields (now (line .entry))) ⌝ }
 {
     if count == Flow::MAX_INSTRUCTIONS {
         return Begun::Fault(Refusal::TooManyLines);
     }
-    let Word::Known(kind) = words::kind_of(text::field(line, 1)) else {
+    let ends = cut.ends;
+    let Word::Known(kind) = words::kind_of(text::field(line, ends, cut.count, 1)) else {
         return Begun::Fault(Refusal::UnknownWord(count + 2));
     };
-    if text::field_count(line) != words::width(kind) + 2 {
+    if cut.count != words::width(kind) + 2 {
         return Begun::Fault(Refusal::WrongCount(count + 2));
     }
-    let Small::Value(number) = small_at(line, 0) else {
+    let Small::Value(number) = small_at(line, cut, 0) else {
         return Begun::Fault(Refusal::BadNumber(count + 2));
     };
     Begun::Shown(Start { kind, number })
 }
 
 // The number in field k after the word.
-pub fn number_at(line: &[u8], kind: Kind, k: usize) -> Number
-    requires { ⌜ k < 4 ⌝ }
-    ensures { λ r. ⌜ r ≡ numberOf (numeral (getD (constantAt kind) k false) (getD (fields (now (line .entry))) (k + 2) [])) ⌝ }
+pub fn number_at(line: &[u8], cut: Fields, kind: Kind, k: usize) -> Number
+    requires { ⌜ Divided (now line) (cut .count) (cut .ends) × (k < 4) ⌝ }
+    ensures { λ r. ⌜ r ≡ numberOf (numeral (mayMinus (getD (sorts kind) k Target)) (getD (fields (now (line .entry))) (k + 2) [])) ⌝ }
 {
-    let minus = k == words::constant_place(kind);
-    text::read_number(text::field(line, k + 2), minus)
+    let minus = words::may_minus(words::sort_at(kind, k));
+    let ends = cut.ends;
+    text::read_number(text::field(line, ends, cut.count, k + 2), minus)
 }
 
-// What a line is read as.
+// Whether the checks once all numbers are read turn a line back.
 pub enum Ended {
-    Kept(Instruction),
+    Fine,
     Fault(Refusal),
 }
 
-// The checks once all numbers are read: the line is in turn, and the numbers of its row lie in their ranges.
-pub fn end(number: u8, row: Instruction, count: usize, head: Head) -> Ended
+// The checks once all numbers are read: the line is in turn, and the numbers lie in their ranges.
+pub fn end(
+    number: u8,
+    kind: Kind,
+    numbers: [i32; Instruction::MAX_NUMBERS],
+    count: usize,
+    head: Head,
+) -> Ended
     requires { ⌜ count ≤ 64 ⌝ }
-    ensures { λ r. ⌜ endedIn r ≡ endLine head count number row ⌝ }
+    ensures { λ r. ⌜ endedIn (row kind numbers) r ≡ endLine head count number (row kind numbers) ⌝ }
 {
     if number as usize != count + 1 {
         return Ended::Fault(Refusal::OutOfTurn(count + 2));
     }
-    if !rows::in_range(row, head) {
+    if !rows::in_range(kind, numbers, head) {
         return Ended::Fault(Refusal::OutOfRange(count + 2));
     }
-    Ended::Kept(row)
+    Ended::Fine
 }

@@ -14,7 +14,6 @@ use crate::Head;
 use crate::Headed;
 use crate::Instruction;
 use crate::Refusal;
-use crate::lent;
 use crate::line;
 use crate::line::Begun;
 use crate::line::Ended;
@@ -27,19 +26,21 @@ use text::Number;
 pub fn read_head(line: &[u8]) -> Headed
     ensures { λ r. ⌜ headIn r ≡ readHead (fields (now (line .entry))) ⌝ }
 {
-    if !text::same_word(text::field(line, 0), b"flow") {
+    let cut = text::divide(line);
+    let ends = cut.ends;
+    if !text::same_word(text::field(line, ends, cut.count, 0), b"flow") {
         return Headed::Fault(Refusal::UnknownWord(1));
     }
-    if text::field_count(line) != 4 {
+    if cut.count != 4 {
         return Headed::Fault(Refusal::WrongCount(1));
     }
-    let Small::Value(tapes) = line::small_at(line, 1) else {
+    let Small::Value(tapes) = line::small_at(line, cut, 1) else {
         return Headed::Fault(Refusal::BadNumber(1));
     };
-    let Small::Value(outputs) = line::small_at(line, 2) else {
+    let Small::Value(outputs) = line::small_at(line, cut, 2) else {
         return Headed::Fault(Refusal::BadNumber(1));
     };
-    let Small::Value(variables) = line::small_at(line, 3) else {
+    let Small::Value(variables) = line::small_at(line, cut, 3) else {
         return Headed::Fault(Refusal::BadNumber(1));
     };
     Flow::head(tapes, outputs, variables)
@@ -67,25 +68,25 @@ pub fn read_lines(text: &[u8], from: usize, head: Head) -> Lines
         }
         let end = text::end_of(text, at, 10);
         let line = &text[at..end];
-        let start = match line::begin(line, count) {
+        let cut = text::divide(line);
+        let start = match line::begin(line, cut, count) {
             Begun::Shown(start) => start,
             Begun::Fault(r) => break 'lines Answer::Refused(r),
         };
         let kind = start.kind;
-        let mut nums = [0i64; 4];
+        let mut numbers = [0i32; Instruction::MAX_NUMBERS];
         for k in 0..words::width(kind) {
-            let Number::Value(x) = line::number_at(line, kind, k) else {
+            let Number::Value(x) = line::number_at(line, cut, kind, k) else {
                 break 'lines Answer::Refused(Refusal::BadNumber(count + 2));
             };
-            nums[k] = x;
+            numbers[k] = rows::in_bounds(x);
         }
-        let row = rows::build(kind, nums);
-        let kept = match line::end(start.number, row, count, head) {
-            Ended::Kept(kept) => kept,
+        match line::end(start.number, kind, numbers, count, head) {
+            Ended::Fine => (),
             Ended::Fault(r) => break 'lines Answer::Refused(r),
-        };
-        let stored = lent::with_row(rows, count, kept);
-        rows = stored;
+        }
+        ;
+        rows[count] = Instruction::new(kind, numbers);
         count += 1;
         at = end + 1;
     };
@@ -104,8 +105,9 @@ pub fn check_targets(rows: [Instruction; Flow::MAX_INSTRUCTIONS], count: usize) 
 {
     let mut i = 0;
     while i < count {
-        let row = lent::row_at(rows, i);
-        if !rows::is_named(row, count as u8) {
+        let row = rows[i];
+        let kind = row.kind;
+        if !rows::is_named(kind, row.numbers(), count as u8) {
             return Targets::Lost(i + 2);
         }
         i += 1;

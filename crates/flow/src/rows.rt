@@ -1,21 +1,21 @@
-// An instruction from the numbers of its line, and whether they lie in their ranges.
+// The numbers of a line as a row keeps them, and whether they lie in their ranges.
 //
 // A number of a line is at most 10,000,000,000 here, and a row keeps less: a number past what a row keeps is given as one that
 // is past every range too (specs/Inner.antt).
 ghost use mathlib.Core.Path.{_≡_};
-ghost use mathlib.Core.Bool.{_&&_};
+ghost use mathlib.Core.Option.{some};
 ghost use Prim.Native.Nat.{min};
-ghost use lib.Dec.{leb};
-ghost use lib.IntN.{natAbs};
+ghost use lib.IntN.{natAbs, pos};
 ghost use Rattle.model.specs.Language.{fields};
-ghost use Rattle.flow.specs.Words.{built};
-ghost use Rattle.flow.specs.Read.{all, inRange, isNamed};
-ghost use Rattle.flow.specs.Code.{rowOf, instructionOf};
-ghost use Rattle.flow.specs.Inner.{bounded, clamp, rowBy, passes, leads};
+ghost use Rattle.flow.specs.Words.{built, field, number};
+ghost use Rattle.flow.specs.Read.{bounds as boundsOf, targets as targetsOf, between, all, inRange, isNamed};
+ghost use Rattle.flow.specs.Inner.{bounded, rangeIn};
 use crate::Flow;
 use crate::Head;
 use crate::Instruction;
 use crate::Kind;
+use crate::Sort;
+use crate::words;
 
 // The size of a number, without its sign.
 fn magnitude(x: i64) -> u64
@@ -24,7 +24,7 @@ fn magnitude(x: i64) -> u64
     if x < 0 { (-1 - x) as u64 + 1 } else { x as u64 }
 }
 
-// A tape, output, variable or target of a row.
+// The number of a line, or a count of line 1, as a byte keeps it.
 pub fn small(x: i64) -> u8
     ensures { λ r. ⌜ r ≡ min (natAbs x) 255 ⌝ }
 {
@@ -32,8 +32,8 @@ pub fn small(x: i64) -> u8
     if 255 < n { 255 } else { n as u8 }
 }
 
-// A constant of a row.
-fn in_bounds(x: i64) -> i32
+// A number of a row.
+pub fn in_bounds(x: i64) -> i32
     ensures { λ r. ⌜ r ≡ bounded x ⌝ }
 {
     if x < -100000 {
@@ -45,98 +45,102 @@ fn in_bounds(x: i64) -> i32
     x as i32
 }
 
-// The row of a kind: x, y, z, m are the numbers after the word, c and d the first two of them as constants.
-fn row(kind: Kind, x: u8, y: u8, z: u8, m: u8, c: i32, d: i32) -> Instruction
-    ensures { λ r. ⌜ r ≡ rowBy kind x y z m c d ⌝ }
+// The range of a number: none, or the least and the greatest that it may be.
+pub enum Range {
+    Any,
+    Within(i32, i32),
+}
+
+// From 1 up to a count.
+fn up_to(count: u8) -> Range
+    ensures { λ r. ⌜ rangeIn r ≡ some (pos 1, pos count) ⌝ }
 {
-    match kind {
-        Kind::Read => Instruction::new(Kind::Read, x, y, 0, z, m),
-        Kind::Put => Instruction::new(Kind::Put, y, x, 0, z, 0),
-        Kind::Copy => Instruction::new(Kind::Copy, x, y, 0, z, 0),
-        Kind::Set => Instruction::new(Kind::Set, 0, y, c, z, 0),
-        Kind::Less => Instruction::new(Kind::Less, x, y, 0, z, m),
-        Kind::Over => Instruction::new(Kind::Over, 0, y, c, z, m),
-        Kind::Under => Instruction::new(Kind::Under, 0, x, d, z, m),
-        Kind::Nop => Instruction::new(Kind::Nop, 0, 0, 0, x, 0),
-        Kind::Stop => Instruction::new(Kind::Stop, 0, 0, 0, 0, 0),
+    Range::Within(1, count as i32)
+}
+
+// Whether a number lies in a range.
+fn lies(n: i32, range: Range) -> bool
+    ensures { λ r. ⌜ r ≡ between (rangeIn range) n ⌝ }
+{
+    match range {
+        Range::Any => true,
+        Range::Within(least, greatest) => (least <= n) & (n <= greatest),
     }
 }
 
-// The row of an instruction, from the numbers after its word.
-pub fn build(kind: Kind, nums: [i64; 4]) -> Instruction
-    ensures { λ r. ⌜ r ≡ rowOf (clamp (built kind nums)) ⌝ }
+// The number in a field of a sort: one that counts is not below 0.
+fn held(sort: Sort, n: i32) -> i32
+    ensures { λ r. ⌜ r ≡ number (field sort n) ⌝ }
 {
-    let first = nums[0];
-    let second = nums[1];
-    let x = small(first);
-    let y = small(second);
-    let z = small(nums[2]);
-    let m = small(nums[3]);
-    let c = in_bounds(first);
-    let d = in_bounds(second);
-    row(kind, x, y, z, m, c, d)
-}
-
-// Whether a number counts from 1 up to a count.
-fn counts(n: u8, count: u8) -> bool
-    ensures { λ r. ⌜ r ≡ (leb 1 n && leb n count) ⌝ }
-{
-    (1 <= n) & (n <= count)
-}
-
-// Which tests an instruction of a kind has to pass.
-fn passed(kind: Kind, tape: bool, output: bool, first: bool, variable: bool, constant: bool) -> bool
-    ensures { λ r. ⌜ r ≡ passes kind tape output first variable constant ⌝ }
-{
-    match kind {
-        Kind::Read => tape & variable,
-        Kind::Put => variable & output,
-        Kind::Copy => first & variable,
-        Kind::Set => constant & variable,
-        Kind::Less => first & variable,
-        Kind::Over => constant & variable,
-        Kind::Under => variable & constant,
-        Kind::Nop => true,
-        Kind::Stop => true,
+    if words::may_minus(sort) {
+        return n;
     }
+    if n < 0 {
+        return 0;
+    }
+    n
+}
+
+// The range of a number other than N, P, M.
+fn bounds(sort: Sort, head: Head) -> Range
+    ensures { λ r. ⌜ rangeIn r ≡ boundsOf head sort ⌝ }
+{
+    match sort {
+        Sort::Target => Range::Any,
+        Sort::Tape => up_to(head.tapes),
+        Sort::Output => up_to(head.outputs),
+        Sort::Variable => up_to(head.variables),
+        Sort::Constant => Range::Within(Flow::LEAST_CONSTANT, Flow::GREATEST_CONSTANT),
+    }
+}
+
+// The range of N, P and M, by the count of instructions.
+fn targets(sort: Sort, count: u8) -> Range
+    ensures { λ r. ⌜ rangeIn r ≡ targetsOf count sort ⌝ }
+{
+    match sort {
+        Sort::Target => up_to(count),
+        Sort::Tape => Range::Any,
+        Sort::Output => Range::Any,
+        Sort::Variable => Range::Any,
+        Sort::Constant => Range::Any,
+    }
+}
+
+// Whether a number other than N, P, M lies in its range.
+fn fits(sort: Sort, n: i32, head: Head) -> bool
+    ensures { λ r. ⌜ r ≡ inRange head (field sort n) ⌝ }
+{
+    lies(held(sort, n), bounds(sort, head))
 }
 
 // Whether the numbers of an instruction other than N, P, M lie in their ranges.
-pub fn in_range(x: Instruction, head: Head) -> bool
-    ensures { λ r. ⌜ r ≡ all (inRange head) (fields (instructionOf x)) ⌝ }
+pub fn in_range(kind: Kind, numbers: [i32; Instruction::MAX_NUMBERS], head: Head) -> bool
+    ensures { λ r. ⌜ r ≡ all (inRange head) (fields (built kind numbers)) ⌝ }
 {
-    let tape = counts(x.a, head.tapes);
-    let output = counts(x.a, head.outputs);
-    let first = counts(x.a, head.variables);
-    let variable = counts(x.v, head.variables);
-    let constant = Flow::is_constant(x.c);
-    let kind = x.kind;
-    passed(kind, tape, output, first, variable, constant)
+    for k in 0..words::width(kind) {
+        if !fits(words::sort_at(kind, k), numbers[k], head) {
+            return false;
+        }
+    }
+    true
 }
 
-// Which targets an instruction of a kind has.
-fn led(kind: Kind, p: bool, m: bool) -> bool
-    ensures { λ r. ⌜ r ≡ leads kind p m ⌝ }
+// Whether N, P or M names one of so many instructions.
+fn names(sort: Sort, n: i32, count: u8) -> bool
+    ensures { λ r. ⌜ r ≡ isNamed count (field sort n) ⌝ }
 {
-    match kind {
-        Kind::Read => p & m,
-        Kind::Put => p,
-        Kind::Copy => p,
-        Kind::Set => p,
-        Kind::Less => p & m,
-        Kind::Over => p & m,
-        Kind::Under => p & m,
-        Kind::Nop => p,
-        Kind::Stop => true,
-    }
+    lies(held(sort, n), targets(sort, count))
 }
 
 // Whether N, P and M of an instruction name one of so many instructions.
-pub fn is_named(x: Instruction, count: u8) -> bool
-    ensures { λ r. ⌜ r ≡ all (isNamed count) (fields (instructionOf x)) ⌝ }
+pub fn is_named(kind: Kind, numbers: [i32; Instruction::MAX_NUMBERS], count: u8) -> bool
+    ensures { λ r. ⌜ r ≡ all (isNamed count) (fields (built kind numbers)) ⌝ }
 {
-    let p = counts(x.p, count);
-    let m = counts(x.m, count);
-    let kind = x.kind;
-    led(kind, p, m)
+    for k in 0..words::width(kind) {
+        if !names(words::sort_at(kind, k), numbers[k], count) {
+            return false;
+        }
+    }
+    true
 }

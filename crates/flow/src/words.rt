@@ -2,11 +2,15 @@
 ghost use mathlib.Core.Path.{_≡_};
 ghost use mathlib.Core.Bool.{cond};
 ghost use mathlib.Core.Option.{some};
-ghost use lib.ListN.{length};
+ghost use Prim.Native.Nat.{_<_};
+ghost use lib.ListN.{length, getD};
 ghost use Rattle.text.specs.Split.{sameWord};
-ghost use Rattle.flow.specs.Words.{kindOf, constantAt};
-ghost use Rattle.flow.specs.Inner.{kindIn, constantPlace};
+ghost use Rattle.flow.specs.Words.{kindOf, sorts, mayMinus, branches};
+ghost use Rattle.flow.specs.Inner.{kindIn, four};
+ghost use Rattle.flow.specs.declared.Sort.the-variants.{Target};
+use crate::Instruction;
 use crate::Kind;
+use crate::Sort;
 
 // The kind that a word names, if it names one.
 pub enum Word {
@@ -40,7 +44,7 @@ pub fn kind_of(w: &[u8]) -> Word
 
 // How many fields follow the word.
 pub fn width(kind: Kind) -> usize
-    ensures { λ r. ⌜ r ≡ length (constantAt kind) ⌝ }
+    ensures { λ r. ⌜ r ≡ length (sorts kind) ⌝ }
 {
     match kind {
         Kind::Read => 4,
@@ -55,19 +59,59 @@ pub fn width(kind: Kind) -> usize
     }
 }
 
-// The field after the word that is a constant, and may have a minus.
-pub fn constant_place(kind: Kind) -> usize
-    ensures { λ r. ⌜ r ≡ constantPlace kind ⌝ }
+// What they name; those past the width do not count.
+fn named(kind: Kind) -> [Sort; Instruction::MAX_NUMBERS]
+    ensures { λ r. ⌜ r ≡ four (sorts kind) ⌝ }
 {
     match kind {
-        Kind::Read => 4,
-        Kind::Put => 4,
-        Kind::Copy => 4,
-        Kind::Set => 0,
-        Kind::Less => 4,
-        Kind::Over => 0,
-        Kind::Under => 1,
-        Kind::Nop => 4,
-        Kind::Stop => 4,
+        Kind::Read => [Sort::Tape, Sort::Variable, Sort::Target, Sort::Target],
+        Kind::Put => [Sort::Variable, Sort::Output, Sort::Target, Sort::Target],
+        Kind::Copy => [Sort::Variable, Sort::Variable, Sort::Target, Sort::Target],
+        Kind::Set => [Sort::Constant, Sort::Variable, Sort::Target, Sort::Target],
+        Kind::Less => [Sort::Variable, Sort::Variable, Sort::Target, Sort::Target],
+        Kind::Over => [Sort::Constant, Sort::Variable, Sort::Target, Sort::Target],
+        Kind::Under => [Sort::Variable, Sort::Constant, Sort::Target, Sort::Target],
+        Kind::Nop => [Sort::Target, Sort::Target, Sort::Target, Sort::Target],
+        Kind::Stop => [Sort::Target, Sort::Target, Sort::Target, Sort::Target],
+    }
+}
+
+// What field k after the word names.
+pub fn sort_at(kind: Kind, k: usize) -> Sort
+    requires { ⌜ k < 4 ⌝ }
+    ensures { λ r. ⌜ r ≡ getD (sorts kind) k Target ⌝ }
+{
+    let all = named(kind);
+    let sort = all[k];
+    sort
+}
+
+// Whether a number may have a minus.
+pub fn may_minus(sort: Sort) -> bool
+    ensures { λ r. ⌜ r ≡ mayMinus sort ⌝ }
+{
+    match sort {
+        Sort::Tape => false,
+        Sort::Output => false,
+        Sort::Variable => false,
+        Sort::Target => false,
+        Sort::Constant => true,
+    }
+}
+
+// Whether an instruction of this kind has two exits.
+pub fn two_exits(kind: Kind) -> bool
+    ensures { λ r. ⌜ r ≡ branches kind ⌝ }
+{
+    match kind {
+        Kind::Read => true,
+        Kind::Put => false,
+        Kind::Copy => false,
+        Kind::Set => false,
+        Kind::Less => true,
+        Kind::Over => true,
+        Kind::Under => true,
+        Kind::Nop => false,
+        Kind::Stop => false,
     }
 }

@@ -1,97 +1,76 @@
 -- A row of the code's flow is the flow's instruction: it stops, puts and names what the instruction does, and a legal flow has only rows
 -- that name tapes and variables that there are and go on to rows that there are.
 use mathlib.Core.Path.{_≡_, refl, sym, subst, ap, _∙_}
-use mathlib.Core.Bool.{Bool, true, false, cond, _&&_, false≢true}
+use mathlib.Core.Bool.{Bool, true, false, cond, false≢true}
 use mathlib.Core.List.{List, [], _∷_, map}
 use Prim.Native.Nat.{ℕ, zero, suc, _-_, _≤_, _<_}
 use native.Mathlib.Omega.{arith}
-use borrow.Author.Tests.{leb-true}
-use lib.Dec.{leb}
 use lib.IntN.{ℤ}
 use lib.Signed.{ltZ}
 use lib.ListN.{length, getD, take, length-take, length-map}
 use lib.Seq.{getD-take}
-use Rattle.model.specs.Language.{Instruction, read, put, copy, const, less, over, under, nop, stop, instruction, fields}
-use Rattle.model.specs.Machine.{State, value, tapeLeft, readFrom, stepBy}
-use Rattle.flow.specs.Code.{instructionOf, flowOf}
+use Rattle.model.specs.Language.{Instruction, stop, instruction, fields}
+use Rattle.model.specs.Machine.{State, value, stepBy}
+use Rattle.model.proofs.View.{View, reads, sets, tests, goes, stops as ends, view, term, onTape, taken, stepView, step-by, Targeted}
+use Rattle.flow.specs.Code.{numbersIn, instructionOf, flowOf}
 use Rattle.flow.specs.Legal.{Legal, head}
 use Rattle.flow.specs.Read.{all, isNamed}
 use Rattle.flow.specs.declared.Flow.{Flow as Rows}
 use Rattle.flow.specs.declared.Instruction.{Instruction as Row}
 use Rattle.flow.specs.declared.Kind.{Kind}
-use Rattle.flow.specs.declared.Kind.the-variants.{Read, Put, Copy, Set, Less, Over, Under, Nop, Stop}
-use Rattle.interpreter.proofs.HeldLaws.{kinded}
-use Rattle.interpreter.proofs.Narrow.{both, ranges-fit, fit-more, putting}
-use Rattle.interpreter.specs.Held.{AllFit, RowFits, stops, outputs}
-use Rattle.interpreter.specs.Run.{isStop, putsBy}
+use Rattle.flow.specs.declared.Kind.the-variants.{Put}
+use Rattle.flow.specs.Words.{built}
+use Rattle.flow.proofs.RowLaws.{tried}
+use Rattle.flow.proofs.Tests.{named-targets}
+use Rattle.interpreter.proofs.Narrow.{ranges-fit, fit-more}
+use Rattle.interpreter.specs.Held.{AllFit, RowFits, countAt, stops, outputs}
+use Rattle.interpreter.specs.Run.{Output, isStop, putsBy}
 
 -- ---- by kind
+abbrev pub putting : ℕ → ℤ → List Output
+putting y x = record { tape = y; value = x } ∷ []
 
 pub row-stops : (x : Row) → isStop (instructionOf x) ≡ stops (x .kind)
-row-stops x = by (x .kind)
-  where
-    by : (k : Kind) → isStop (instructionOf (kinded x k)) ≡ stops k
-    by Read = refl
-    by Put = refl
-    by Copy = refl
-    by Set = refl
-    by Less = refl
-    by Over = refl
-    by Under = refl
-    by Nop = refl
-    by Stop = refl
+row-stops x = tried (λ k. isStop (built k (numbersIn x))) stops refl (x .kind)
 
-pub row-puts : (x : Row) (s : State) → putsBy (instructionOf x) s ≡ cond (outputs (x .kind)) (putting (x .a) (value s (x .v))) []
-row-puts x s = by (x .kind)
+pub row-puts : (x : Row) (s : State) → putsBy (instructionOf x) s ≡ cond (outputs (x .kind)) (putting (countAt x 1) (value s (countAt x 0))) []
+row-puts x s = tried (λ k. putsBy (built k (numbersIn x)) s) (λ k. cond (outputs k) (putting (countAt x 1) (value s (countAt x 0))) []) refl (x .kind)
+
+-- only a put puts: its numbers are a variable and an output tape
+put-kind : (k : Kind) → outputs k ≡ true → k ≡ Put
+put-kind k e = by (outputs k) e (tried (λ j. cond (outputs j) Put j) (λ j. j) refl k)
   where
-    by : (k : Kind) → putsBy (instructionOf (kinded x k)) s ≡ cond (outputs k) (putting (x .a) (value s (x .v))) []
-    by Read = refl
-    by Put = refl
-    by Copy = refl
-    by Set = refl
-    by Less = refl
-    by Over = refl
-    by Under = refl
-    by Nop = refl
-    by Stop = refl
+    by : (b : Bool) → b ≡ true → cond b Put k ≡ k → k ≡ Put
+    by true e h = sym h
+    by false e h = absurd (false≢true e)
+
+pub put-fits : (x : Row) (t v : ℕ) → outputs (x .kind) ≡ true → AllFit t v (fields (instructionOf x)) → ((1 ≤ countAt x 0) × (countAt x 0 ≤ v)) × ((1 ≤ countAt x 1) × (countAt x 1 ≤ 255))
+put-fits x t v e h = let f = subst (λ (k : Kind). AllFit t v (fields (built k (numbersIn x)))) (put-kind (x .kind) e) h in (f .0, f .1 .0)
 
 -- ---- where an instruction leads
 
-module _ (count : ℕ) where
+-- a step goes on to an instruction that there is, or stays
+module _ (count : ℕ) (s : State) where
   abbrev Named : ℕ → Type 0
   Named n = (1 ≤ n) × (n ≤ count)
 
-  named : (n : ℕ) → (leb 1 n && leb n count) && true ≡ true → Named n
-  named n e =
-      let (a, b) = both (leb 1 n && leb n count) true e in
-      let (c, d) = both (leb 1 n) (leb n count) a in
-      (leb-true 1 n c, leb-true n count d)
-
-  both-named : (p m : ℕ) → (leb 1 p && leb p count) && ((leb 1 m && leb m count) && true) ≡ true → Named p × Named m
-  both-named p m e =
-      let (a, b) = both (leb 1 p && leb p count) ((leb 1 m && leb m count) && true) e in
-      let (c, d) = both (leb 1 p) (leb p count) a in
-      ((leb-true 1 p c, leb-true p count d), named m b)
+  named-read : (l : List ℤ) (a v p m : ℕ) → Named p → Named m → Named (taken l a v p m s .next)
+  named-read [] a v p m hp hm = hm
+  named-read (x ∷ rest) a v p m hp hm = hp
 
   named-either : (b : Bool) (p m : ℕ) → Named p → Named m → Named (cond b p m)
   named-either true p m hp hm = hp
   named-either false p m hp hm = hm
 
-  named-read : (l : List ℤ) (a v p m : ℕ) (s : State) → Named p → Named m → Named (readFrom l a v p m s .next)
-  named-read [] a v p m s hp hm = hm
-  named-read (x ∷ rest) a v p m s hp hm = hp
+  leads : (x : View) → Targeted Named x → Named (s .next) → Named (stepView x s .next)
+  leads (reads a v p m) h here = named-read (onTape s a) a v p m (h .0) (h .1)
+  leads (sets t v n) h here = h
+  leads (tests t u p m) h here = named-either (ltZ (term (s .variables) t) (term (s .variables) u)) p m (h .0) (h .1)
+  leads (goes n) h here = h
+  leads ends h here = here
 
-  pub leads-on : (i : Instruction) (s : State) → isStop i ≡ false → all (isNamed count) (fields i) ≡ true → Named (stepBy i s .next)
-  unfolding all
-  leads-on (read a v p m) s goes e = let (hp, hm) = both-named p m e in named-read (tapeLeft s a) a v p m s hp hm
-  leads-on (put v y n) s goes e = named n e
-  leads-on (copy u v n) s goes e = named n e
-  leads-on (const c v n) s goes e = named n e
-  leads-on (less u v p m) s goes e = let (hp, hm) = both-named p m e in named-either (ltZ (value s u) (value s v)) p m hp hm
-  leads-on (over c v p m) s goes e = let (hp, hm) = both-named p m e in named-either (ltZ c (value s v)) p m hp hm
-  leads-on (under v c p m) s goes e = let (hp, hm) = both-named p m e in named-either (ltZ (value s v) c) p m hp hm
-  leads-on (nop n) s goes e = named n e
-  leads-on stop s goes e = absurd (false≢true (sym goes))
+  pub leads-on : (i : Instruction) → all (isNamed count) (fields i) ≡ true → Named (s .next) → Named (stepBy i s .next)
+  leads-on i e here = rw (step-by i s) (leads (view i) (named-targets Named count (λ n h. h) i e) here)
 
 -- ---- the rows of a legal flow
 
@@ -124,7 +103,7 @@ module _ (flow : Rows) (next : ℕ) (is : (1 ≤ next) × (next ≤ length (flow
     unfolding flowOf
     flow-fits =
         subst (λ (i : Instruction). AllFit (flow .tapes) (flow .variables) (fields i)) row-is
-        (ranges-fit (head (flowOf flow)) (fields (instruction (flowOf flow) next)) (legal .ranges next))
+        (ranges-fit (head (flowOf flow)) (legal .outputs) (length (flowOf flow .instructions)) (fields (instruction (flowOf flow) next)) (legal .ranges next) (legal .targets next))
 
     pub row-fits : RowFits (getD (flow .instructions) (next - 1) d)
     unfolding RowFits flowOf

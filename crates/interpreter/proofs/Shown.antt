@@ -11,16 +11,20 @@ use lib.Dec.{leb}
 use lib.IntN.{ℤ, pos}
 use lib.ListN.{length, getD, set, drop, length-append, length-drop, length-map}
 use lib.Seq.{drop-cons, set-append-seam}
-use Rattle.model.specs.Language.{Instruction, instruction, fields}
+use Rattle.model.specs.Language.{Instruction, instruction, fields, C1, C2}
 use Rattle.model.specs.Machine.{State, value, stepBy, Exit, p-exit, m-exit, exitBy, exitOf}
+use Rattle.model.proofs.View.{view, Sound, sound}
 use Rattle.flow.specs.Code.{instructionOf, flowOf}
 use Rattle.flow.specs.Legal.{Legal}
 use Rattle.flow.specs.Read.{all, isNamed}
 use Rattle.flow.specs.declared.Flow.{Flow as Rows}
 use Rattle.flow.specs.declared.Instruction.{Instruction as Row}
-use Rattle.interpreter.proofs.Narrow.{Narrow, narrow-step, narrow-exit, narrow-puts, putting}
-use Rattle.interpreter.proofs.RowLaws.{row-stops, row-puts, leads-on, row-is, flow-fits}
-use Rattle.interpreter.specs.Held.{AllFit, held, Placed, stops, outputs, branches, exitWhen, Stepped}
+use Rattle.flow.proofs.Tests.{ranges-sound}
+use Rattle.interpreter.proofs.Narrow.{Narrow, same-value, narrow-step, narrow-exit}
+use Rattle.interpreter.proofs.RowLaws.{putting, row-stops, row-puts, put-fits, leads-on, row-is, flow-fits}
+use Rattle.flow.specs.Words.{branches}
+use Rattle.interpreter.specs.declared.Onward.{Onward}
+use Rattle.interpreter.specs.Held.{AllFit, countAt, held, Placed, stops, outputs, exitWhen, Stepped}
 use Rattle.interpreter.specs.Run.{Output, Progress, coming, putsBy, counted, onward, isStop, fit, written}
 
 -- one cell more of a row is written
@@ -90,14 +94,14 @@ module _ (flow : Rows) (cells : ℕ) (row : List ℤ) (ends : List ℕ) (numbers
     pub m : l .m ≡ r .m
 
   -- what a turn of the loop does, by the row x of the next instruction: put, step, count, target
-  pub record Turned (x : Row) (first : Bool) (l l′ : Locals) : Type 0 where
+  pub record Turned (x : Row) (went : Onward) (l l′ : Locals) : Type 0 where
     pub puts : l′ .puts ≡ cond (outputs (x .kind)) (l .puts + 1) (l .puts)
-    pub numbers : l′ .numbers ≡ cond (outputs (x .kind)) (set (l .numbers) (l .puts) (x .a)) (l .numbers)
-    pub values : l′ .values ≡ cond (outputs (x .kind)) (set (l .values) (l .puts) (getD (l .variables) (x .v - 1) (pos 0))) (l .values)
-    pub stepped : Stepped x row ends (l .variables) (l .at) (l′ .variables) (l′ .at) first
-    pub p : l′ .p ≡ counted (exitWhen (branches (x .kind)) first) p-exit (l .next) (l .p)
-    pub m : l′ .m ≡ counted (exitWhen (branches (x .kind)) first) m-exit (l .next) (l .m)
-    pub next : l′ .next ≡ cond first (x .p) (x .m)
+    pub numbers : l′ .numbers ≡ cond (outputs (x .kind)) (set (l .numbers) (l .puts) (countAt x 1)) (l .numbers)
+    pub values : l′ .values ≡ cond (outputs (x .kind)) (set (l .values) (l .puts) (getD (l .variables) (countAt x 0 - 1) (pos 0))) (l .values)
+    pub stepped : Stepped x row ends (l .variables) (l .at) (l′ .variables) (l′ .at) went
+    pub p : l′ .p ≡ counted (exitWhen (branches (x .kind)) (went .first)) p-exit (l .next) (l .p)
+    pub m : l′ .m ≡ counted (exitWhen (branches (x .kind)) (went .first)) m-exit (l .next) (l .m)
+    pub next : l′ .next ≡ went .next
 
   module _
       (legal : Legal (flowOf flow)) (room : (cells ≤ length numbers₀) × (cells ≤ length values₀))
@@ -112,6 +116,12 @@ module _ (flow : Rows) (cells : ℕ) (row : List ℤ) (ends : List ℕ) (numbers
       fit-row : AllFit (flow .tapes) (flow .variables) (fields (instructionOf x))
       fit-row = flow-fits flow (l .next) (shows .named) d legal
 
+      -- it names tapes and variables of the flow
+      own : Sound (C1 (flowOf flow)) (C2 (flowOf flow)) (flowOf flow) (view (instructionOf x))
+      own =
+          subst (λ (i : Instruction). Sound (C1 (flowOf flow)) (C2 (flowOf flow)) (flowOf flow) (view i)) (row-is flow (l .next) (shows .named) d)
+          (sound (ranges-sound (flowOf flow) (legal .ranges)) (l .next))
+
       pub coming-is : coming (flowOf flow) r ≡ instructionOf x
       coming-is = ap (instruction (flowOf flow)) (shows .state .next) ∙ row-is flow (l .next) (shows .named) d
 
@@ -119,20 +129,26 @@ module _ (flow : Rows) (cells : ℕ) (row : List ℤ) (ends : List ℕ) (numbers
       coming-stops = ap isStop coming-is ∙ row-stops x
 
       exit-is : exitOf (flowOf flow) (r .state) ≡ exitBy (instructionOf x) w
-      exit-is = ap (λ (i : Instruction). exitBy i (r .state)) coming-is ∙ narrow-exit _ _ (r .state) w (shows .state) (instructionOf x) fit-row
+      unfolding flowOf
+      exit-is = ap (λ (i : Instruction). exitBy i (r .state)) coming-is ∙ narrow-exit (flowOf flow) (r .state) w (shows .state) (C1 (flowOf flow)) (C2 (flowOf flow)) (instructionOf x) own
 
-      puts-is : putsBy (coming (flowOf flow) r) (r .state) ≡ cond (outputs (x .kind)) (putting (x .a) (value w (x .v))) []
+      puts-is : putsBy (coming (flowOf flow) r) (r .state) ≡ cond (outputs (x .kind)) (putting (countAt x 1) (value w (countAt x 0))) []
+      unfolding flowOf
       puts-is =
-          ap (λ (i : Instruction). putsBy i (r .state)) coming-is
-          ∙ narrow-puts _ _ (r .state) w (shows .state) (instructionOf x) fit-row
-          ∙ row-puts x w
+          ap (λ (i : Instruction). putsBy i (r .state)) coming-is ∙ row-puts x (r .state) ∙ same (outputs (x .kind)) refl
+        where
+          same : (b : Bool) → outputs (x .kind) ≡ b
+              → cond b (putting (countAt x 1) (value (r .state) (countAt x 0))) [] ≡ cond b (putting (countAt x 1) (value w (countAt x 0))) []
+          same true e = ap (putting (countAt x 1))
+              (same-value (flowOf flow) (r .state) w (shows .state) (countAt x 0 - 1) (omega (arith, put-fits x (flow .tapes) (flow .variables) e fit-row)))
+          same false e = refl
 
       -- a put that has a free cell
       pub has-cell : outputs (x .kind) && leb cells (l .puts) ≡ false → outputs (x .kind) ≡ true → l .puts < cells
       has-cell free puts = leb-false cells (l .puts) (subst (λ (b : Bool). b && leb cells (l .puts) ≡ false) puts free)
 
       abbrev out : Output
-      out = record { tape = x .a; value = getD (l .variables) (x .v - 1) (pos 0) }
+      out = record { tape = countAt x 1; value = getD (l .variables) (countAt x 0 - 1) (pos 0) }
 
       onward-puts : onward (flowOf flow) r .puts ≡ r .puts ++ cond (outputs (x .kind)) (out ∷ []) []
       onward-puts = ap (λ (new : List Output). r .puts ++ new) puts-is
@@ -165,18 +181,19 @@ module _ (flow : Rows) (cells : ℕ) (row : List ℤ) (ends : List ℕ) (numbers
           ∙ row-on f (outputs (x .kind)) (r .puts) out row₀ (λ (h : outputs (x .kind) ≡ true). omega (arith, has-cell free h, shows .puts, room))
           ∙ ap (λ (ps : List Output). written (map f ps) row₀) (sym onward-puts)
 
-      pub shows-onward : {first : Bool} {l′ : Locals}
+      pub shows-onward : {went : Onward} {l′ : Locals}
           → stops (x .kind) ≡ false
           → outputs (x .kind) && leb cells (l .puts) ≡ false
-          → Turned x first l l′
+          → Turned x went l l′
           → Shows (onward (flowOf flow) r) l′
-      shows-onward {first} {l′} goes free turn =
+      unfolding flowOf
+      shows-onward {went} {l′} goes free turn =
           record {
             state = subst (λ (i : Instruction). Narrow (flow .tapes) (flow .variables) (stepBy i (r .state)) w′) (sym coming-is)
                 (subst (λ (u : State). Narrow (flow .tapes) (flow .variables) (stepBy (instructionOf x) (r .state)) u) moved
-                (narrow-step (flow .tapes) (flow .variables) (r .state) w (shows .state) (instructionOf x) fit-row));
+                (narrow-step (flowOf flow) (r .state) w (shows .state) (C1 (flowOf flow)) (C2 (flowOf flow)) (instructionOf x) own));
             named = subst (λ (u : State). (1 ≤ u .next) × (u .next ≤ length (flowOf flow .instructions))) moved
-                (leads-on (length (flowOf flow .instructions)) (instructionOf x) w (row-stops x ∙ goes) names);
+                (leads-on (length (flowOf flow .instructions)) w (instructionOf x) names (shows .named));
             placed = record { places = turn .stepped .kept ∙ shows .placed .places; three = shows .placed .three; within = shows .placed .within };
             puts = turn .puts ∙ puts-count;
             few = omega (arith, turn .puts, few-on (outputs (x .kind)) (l .puts) cells (shows .few) free);
@@ -198,7 +215,7 @@ module _ (flow : Rows) (cells : ℕ) (row : List ℤ) (ends : List ℕ) (numbers
               (row-is flow (l .next) (shows .named) d) (legal .targets (l .next))
 
           counted-as : (e : Exit) (a b : List ℕ) → a ≡ b
-              → counted (exitWhen (branches (x .kind)) first) e (l .next) a ≡ counted (exitOf (flowOf flow) (r .state)) e (r .state .next) b
+              → counted (exitWhen (branches (x .kind)) (went .first)) e (l .next) a ≡ counted (exitOf (flowOf flow) (r .state)) e (r .state .next) b
           counted-as e a b h =
-              ap (counted (exitWhen (branches (x .kind)) first) e (l .next)) h
+              ap (counted (exitWhen (branches (x .kind)) (went .first)) e (l .next)) h
               ∙ ap₂ (λ (t : Option Exit) (n : ℕ). counted t e n b) (sym (exit-is ∙ turn .stepped .exit (l .next))) (sym (shows .state .next))

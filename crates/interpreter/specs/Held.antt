@@ -9,13 +9,14 @@ use lib.ListN.{length, getD, take}
 use lib.Seq.{slice}
 use Rattle.model.specs.Language.{Field, tape, output, variable, target, constant, fields}
 use Rattle.model.specs.Machine.{State, stepBy, Exit, exitIf, exitBy}
-use Rattle.flow.specs.Code.{instructionOf, flowOf}
+use Rattle.flow.specs.Words.{count, at, built, branches}
+use Rattle.flow.specs.Code.{numbersIn, instructionOf, flowOf}
 use Rattle.flow.specs.Limits.{maxTapes, maxVariables}
 use Rattle.flow.specs.declared.Flow.{Flow as Rows}
 use Rattle.flow.specs.declared.Instruction.{Instruction as Row}
 use Rattle.flow.specs.declared.Kind.{Kind}
-use Rattle.flow.specs.declared.Kind.the-variants.{Read, Put, Copy, Set, Less, Over, Under, Nop, Stop}
-use Rattle.interpreter.specs.Run.{Outcome, begin, limited}
+use Rattle.interpreter.specs.declared.Onward.{Onward}
+use Rattle.interpreter.specs.Run.{Output, Outcome, isStop, putsBy, begin, limited}
 
 -- what is left of each tape: the records from its place to its end
 unfoldable pub leftIn : List ℤ → (at ends : List ℕ) → List (List ℤ)
@@ -33,12 +34,12 @@ pub record Placed (row : List ℤ) (at ends : List ℕ) : Type 0 where
   pub three : length ends ≡ maxTapes
   pub within : (i : ℕ) → getD ends i 0 ≤ length row
 
--- fields that name tapes 1 to t and variables 1 to v; a row names three tapes and four variables at most
+-- fields that name tapes 1 to t and variables 1 to v, and count from 1; a row names three tapes and four variables at most
 abbrev pub Fits : (t v : ℕ) → Field → Type 0
 Fits t v (tape n) = (1 ≤ n) × (n ≤ t)
-Fits t v (output n) = Unit {0}
+Fits t v (output n) = (1 ≤ n) × (n ≤ 255)
 Fits t v (variable n) = (1 ≤ n) × (n ≤ v)
-Fits t v (target n) = Unit {0}
+Fits t v (target n) = 1 ≤ n
 Fits t v (constant c) = Unit {0}
 
 abbrev pub AllFit : (t v : ℕ) → List Field → Type 0
@@ -48,49 +49,37 @@ AllFit t v (f ∷ fs) = Fits t v f × AllFit t v fs
 unfoldable pub RowFits : Row → Type 0
 RowFits x = AllFit maxTapes maxVariables (fields (instructionOf x))
 
--- the kinds that end a run, put, and have two exits
+-- the kinds that end a run, and that put
+abbrev any : List Output → Bool
+any [] = false
+any (o ∷ os) = true
+
 abbrev pub stops : Kind → Bool
-stops Read = false
-stops Put = false
-stops Copy = false
-stops Set = false
-stops Less = false
-stops Over = false
-stops Under = false
-stops Nop = false
-stops Stop = true
+stops k = isStop (built k [])
 
 abbrev pub outputs : Kind → Bool
-outputs Read = false
-outputs Put = true
-outputs Copy = false
-outputs Set = false
-outputs Less = false
-outputs Over = false
-outputs Under = false
-outputs Nop = false
-outputs Stop = false
+outputs k = any (putsBy (built k []) (held 0 [] [] [] []))
 
-abbrev pub branches : Kind → Bool
-branches Read = true
-branches Put = false
-branches Copy = false
-branches Set = false
-branches Less = true
-branches Over = true
-branches Under = true
-branches Nop = false
-branches Stop = false
+-- the number in place j of a row, as a count
+abbrev pub countAt : Row → ℕ → ℕ
+countAt x j = count (at (numbersIn x) j)
+
+-- where a step goes on: to N, or to P or M
+abbrev pub straightOn : ℕ → Onward
+straightOn n = record { first = true; next = n }
+
+abbrev pub eitherOn : Row → Bool → Onward
+eitherOn x first = record { first = first; next = cond first (countAt x 2) (countAt x 3) }
 
 -- the exit taken, by whether there are two and whether the step goes on by the first target
 abbrev pub exitWhen : (two first : Bool) → Option Exit
 exitWhen true first = some (exitIf first)
 exitWhen false first = none
 
--- one step of the machine on what the code holds, which goes on by the row's first target or by its second
-pub record Stepped (x : Row) (row : List ℤ) (ends : List ℕ) (vs : List ℤ) (at : List ℕ) (vs′ : List ℤ) (at′ : List ℕ) (first : Bool) : Type 0 where
-  pub state : (n : ℕ) → stepBy (instructionOf x) (held n row vs at ends) ≡ held (cond first (x .p) (x .m)) row vs′ at′ ends
-  pub exit : (n : ℕ) → exitBy (instructionOf x) (held n row vs at ends) ≡ exitWhen (branches (x .kind)) first
+-- one step of the machine on what the code holds, and where it goes on
+pub record Stepped (x : Row) (row : List ℤ) (ends : List ℕ) (vs : List ℤ) (at : List ℕ) (vs′ : List ℤ) (at′ : List ℕ) (went : Onward) : Type 0 where
+  pub state : (n : ℕ) → stepBy (instructionOf x) (held n row vs at ends) ≡ held (went .next) row vs′ at′ ends
+  pub exit : (n : ℕ) → exitBy (instructionOf x) (held n row vs at ends) ≡ exitWhen (branches (x .kind)) (went .first)
   pub kept : length at′ ≡ length at
 
 -- the run on the tapes that stand at these places

@@ -1,6 +1,6 @@
 // The interpreter: a run of a flow on tapes in a row, with a step limit and two output rows (document 01, "Runs").
 //
-// `run` gives what `rowRun` of specs/Run.antt says. The instructions are fetched once; the loop indexes them itself, holds the variables and
+// `run` gives what `rowRun` of specs/Run.antt says. The loop indexes the instructions itself, holds the variables and
 // the tapes' places as arrays, and lends these to functions that each do one thing of a step: nothing large is copied.
 
 ghost use mathlib.Core.Path.{_≡_};
@@ -11,16 +11,18 @@ ghost use lib.IntN.{pos};
 ghost use lib.ListN.{length, getD, set};
 ghost use Rattle.model.specs.Machine.{p-exit, m-exit};
 ghost use Rattle.flow.specs.Limits.{maxInstructions, maxVariables};
+ghost use Rattle.flow.specs.Words.{branches};
 ghost use Rattle.flow.specs.Code.{flowOf};
 ghost use Rattle.flow.specs.Legal.{Legal};
 ghost use Rattle.flow.specs.declared.Kind.the-variants.{Read};
 ghost use Rattle.model.specs.Tapes.{total};
 ghost use Rattle.interpreter.specs.Run.{maxSteps, rowRun, ranOf, written, tapesPut, valuesPut, counted};
-ghost use Rattle.interpreter.specs.Held.{Placed, RowFits, stops, outputs, branches, exitWhen, Stepped, heldRun};
+ghost use Rattle.interpreter.specs.Held.{Placed, RowFits, countAt, straightOn, eitherOn, stops, outputs, exitWhen, Stepped, heldRun};
 use flow::Flow;
 use flow::Instruction;
 use flow::Kind;
 use flow::Refusal;
+use flow::words;
 
 // A value for each variable, a number for each tape, a count for each instruction.
 pub type Variables = [i32; Flow::MAX_VARIABLES as usize];
@@ -87,23 +89,6 @@ fn is_put(kind: Kind) -> bool
     }
 }
 
-// Whether an instruction of this kind has two exits.
-pub fn two_exits(kind: Kind) -> bool
-    ensures { λ r. ⌜ r ≡ branches kind ⌝ }
-{
-    match kind {
-        Kind::Read => true,
-        Kind::Put => false,
-        Kind::Copy => false,
-        Kind::Set => false,
-        Kind::Less => true,
-        Kind::Over => true,
-        Kind::Under => true,
-        Kind::Nop => false,
-        Kind::Stop => false,
-    }
-}
-
 // Whether an instruction of this kind is a put with no free cell.
 fn is_full(kind: Kind, puts: usize, cells: usize) -> bool
     ensures { λ r. ⌜ r ≡ (outputs kind && leb cells puts) ⌝ }
@@ -115,20 +100,20 @@ fn is_full(kind: Kind, puts: usize, cells: usize) -> bool
 }
 
 // The value of variable number u.
-fn value(variables: &Variables, u: u8) -> i32
+fn value(variables: &Variables, u: usize) -> i32
     requires { ⌜ (1 ≤ u) × (u ≤ maxVariables) ⌝ }
     ensures { λ r. ⌜ r ≡ getD (now (variables .entry)) (u - 1) (pos 0) ⌝ }
 {
-    let i = u as usize - 1;
+    let i = u - 1;
     variables[i]
 }
 
 // y to variable number v.
-fn assign(variables: &mut Variables, v: u8, y: i32)
+fn assign(variables: &mut Variables, v: usize, y: i32)
     requires { ⌜ (1 ≤ v) × (v ≤ maxVariables) ⌝ }
     ensures { λ _. ⌜ now (variables .exit) ≡ set (now (variables .entry)) (v - 1) y ⌝ }
 {
-    let i = v as usize - 1;
+    let i = v - 1;
     variables[i] = y;
 }
 
@@ -143,54 +128,89 @@ fn put(
     requires { ⌜ RowFits x ⌝ }
     requires { ⌜ (outputs (x .kind) ≡ true → (puts < length (now numbers)) × (puts < length (now values))) ⌝ }
     ensures { λ r. ⌜ r ≡ cond (outputs (x .kind)) (puts + 1) puts ⌝ }
-    ensures { λ r. ⌜ now (numbers .exit) ≡ cond (outputs (x .kind)) (set (now (numbers .entry)) puts (x .a)) (now (numbers .entry)) ⌝ }
+    ensures { λ r. ⌜ now (numbers .exit) ≡ cond (outputs (x .kind)) (set (now (numbers .entry)) puts (countAt x 1)) (now (numbers .entry)) ⌝ }
     ensures { λ r. ⌜ now (values .exit)
-        ≡ cond (outputs (x .kind)) (set (now (values .entry)) puts (getD (now (variables .entry)) (x .v - 1) (pos 0))) (now (values .entry)) ⌝ }
+        ≡ cond (outputs (x .kind)) (set (now (values .entry)) puts (getD (now (variables .entry)) (countAt x 0 - 1) (pos 0))) (now (values .entry)) ⌝ }
 {
     let kind = x.kind;
     if is_put(kind) {
-        let y = value(variables, x.v);
-        numbers[puts] = x.a;
+        let y = value(variables, x.count(0));
+        let tape = x.count(1) as u8;
+        numbers[puts] = tape;
         values[puts] = y;
         return puts + 1;
     }
     puts
 }
 
-// The step of a read: its first target if the tape has a record left.
+// Where a step goes on, and whether by the first of its targets.
+pub struct Onward {
+    pub first: bool,
+    pub next: usize,
+}
+
+// On to N, in field k after the word.
+fn straight(x: Instruction, k: usize) -> Onward
+    requires { ⌜ (k < 4) × (1 ≤ countAt x k) ⌝ }
+    ensures { λ r. ⌜ r ≡ straightOn (countAt x k) ⌝ }
+{
+    Onward {
+        first: true,
+        next: x.count(k),
+    }
+}
+
+// On to P or to M.
+fn either(x: Instruction, first: bool) -> Onward
+    requires { ⌜ (1 ≤ countAt x 2) × (1 ≤ countAt x 3) ⌝ }
+    ensures { λ r. ⌜ r ≡ eitherOn x first ⌝ }
+{
+    if first {
+        return Onward {
+            first: true,
+            next: x.count(2),
+        };
+    }
+    Onward {
+        first: false,
+        next: x.count(3),
+    }
+}
+
+// The step of a read: on to P if the tape has a record left.
 fn read_record(
     x: Instruction,
     records: &[i32],
     variables: &mut Variables,
     at: &mut PerTape,
     ends: &PerTape,
-) -> bool
+) -> Onward
     requires { ⌜ x .kind ≡ Read ⌝ }
     requires { ⌜ RowFits x ⌝ }
     requires { ⌜ Placed (now records) (now at) (now ends) ⌝ }
     ensures { λ r. ⌜ Stepped x (now (records .entry)) (now (ends .entry))
         (now (variables .entry)) (now (at .entry)) (now (variables .exit)) (now (at .exit)) r ⌝ }
 {
-    let i = x.a as usize - 1;
-    let j = x.v as usize - 1;
+    let i = x.count(0) - 1;
+    let j = x.count(1) - 1;
     let k = at[i];
     if ends[i] <= k {
-        return false;
+        return either(x, false);
     }
     at[i] = k + 1;
     let y = records[k];
     variables[j] = y;
-    true
+    either(x, true)
 }
 
-// One step but for `stop`: whether it goes on by the first target.
+// One step but for `stop`.
 fn step(
     x: Instruction,
     records: &[i32],
     variables: &mut Variables,
     at: &mut PerTape,
     ends: &PerTape,
-) -> bool
+) -> Onward
     requires { ⌜ stops (x .kind) ≡ false ⌝ }
     requires { ⌜ RowFits x ⌝ }
     requires { ⌜ Placed (now records) (now at) (now ends) ⌝ }
@@ -203,31 +223,37 @@ fn step(
             return read_record(x, records, variables, at, ends);
         }
         Kind::Put => {
-            return true;
+            return straight(x, 2);
         }
         Kind::Copy => {
-            let y = value(variables, x.a);
-            assign(variables, x.v, y);
-            return true;
+            let y = value(variables, x.count(0));
+            assign(variables, x.count(1), y);
+            return straight(x, 2);
         }
         Kind::Set => {
-            assign(variables, x.v, x.c);
-            return true;
+            assign(variables, x.count(1), x.number(0));
+            return straight(x, 2);
         }
         Kind::Less => {
-            return value(variables, x.a) < value(variables, x.v);
+            return either(
+                x,
+                value(variables, x.count(0)) < value(variables, x.count(1)),
+            );
         }
         Kind::Over => {
-            return x.c < value(variables, x.v);
+            return either(x, x.number(0) < value(variables, x.count(1)));
         }
         Kind::Under => {
-            return value(variables, x.v) < x.c;
+            return either(x, value(variables, x.count(0)) < x.number(1));
         }
         Kind::Nop => {
-            return true;
+            return straight(x, 0);
         }
         Kind::Stop => {
-            return true;
+            return Onward {
+                first: true,
+                next: 0,
+            };
         }
     }
 }
@@ -239,7 +265,7 @@ fn count(kind: Kind, first: bool, i: usize, p: &mut PerInstruction, m: &mut PerI
     ensures { λ _. ⌜ now (p .exit) ≡ counted (exitWhen (branches kind) first) p-exit i (now (p .entry)) ⌝ }
     ensures { λ _. ⌜ now (m .exit) ≡ counted (exitWhen (branches kind) first) m-exit i (now (m .entry)) ⌝ }
 {
-    if !two_exits(kind) {
+    if !words::two_exits(kind) {
         return;
     }
     let k = i - 1;
@@ -248,16 +274,6 @@ fn count(kind: Kind, first: bool, i: usize, p: &mut PerInstruction, m: &mut PerI
         return;
     }
     m[k] = m[k] + 1;
-}
-
-// Where the step leads.
-fn target(x: Instruction, first: bool) -> usize
-    ensures { λ r. ⌜ r ≡ cond first (x .p) (x .m) ⌝ }
-{
-    if first {
-        return x.p as usize;
-    }
-    x.m as usize
 }
 
 // The run with the tapes at these places.
@@ -302,9 +318,9 @@ fn run_from(
             break RunEnd::Full;
         }
         puts = put(x, &variables, puts, numbers, values);
-        let first = step(x, records, &mut variables, &mut at, &ends);
-        count(kind, first, next, &mut p, &mut m);
-        next = target(x, first);
+        let went = step(x, records, &mut variables, &mut at, &ends);
+        count(kind, went.first, next, &mut p, &mut m);
+        next = went.next;
         steps += 1;
     };
     RunAnswer {
@@ -346,9 +362,8 @@ pub fn run(
     let a = lengths[0];
     let b = a + lengths[1];
     let c = b + lengths[2];
-    let held = flow.fetched();
     run_from(
-        held,
+        flow,
         most,
         records,
         [0, a, b],

@@ -120,6 +120,32 @@ pub record Legal (lo hi : ℤ) (flow : Flow) : Type 0 where
   pub numbers : (i : ℕ) → All (Numbered flow) (fields (instruction flow i))
   pub constants-inside : (i : ℕ) (c : ℤ) → In c (constants (fields (instruction flow i))) → Inside lo hi c
 
+-- ---- where a view goes on: what holds of every target among the fields holds of its targets
+abbrev pub OnTarget : (ℕ → Type 0) → Field → Type 0
+OnTarget P (tape a) = Unit {0}
+OnTarget P (output y) = Unit {0}
+OnTarget P (variable v) = Unit {0}
+OnTarget P (target n) = P n
+OnTarget P (constant c) = Unit {0}
+
+abbrev pub Targeted : (ℕ → Type 0) → View → Type 0
+Targeted P (reads a v p m) = P p × P m
+Targeted P (sets t v n) = P n
+Targeted P (tests x y p m) = P p × P m
+Targeted P (goes n) = P n
+Targeted P stops = Unit {0}
+
+pub targeted : (P : ℕ → Type 0) (i : Instruction) → All (OnTarget P) (fields i) → Targeted P (view i)
+targeted P (read a v p m) (_, (_, (h, (k, _)))) = (h, k)
+targeted P (put v y n) (_, (_, (h, _))) = h
+targeted P (copy u v n) (_, (_, (h, _))) = h
+targeted P (const c v n) (_, (_, (h, _))) = h
+targeted P (less u v p m) (_, (_, (h, (k, _)))) = (h, k)
+targeted P (over c v p m) (_, (_, (h, (k, _)))) = (h, k)
+targeted P (under v c p m) (_, (_, (h, (k, _)))) = (h, k)
+targeted P (nop n) (h, _) = h
+targeted P stop h = tt
+
 -- a term whose value a comparison may name: any variable, a constant from lo to hi
 abbrev pub Known : (lo hi : ℤ) → Term → Type 0
 Known lo hi (held u) = Unit {0}

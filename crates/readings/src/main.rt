@@ -7,13 +7,14 @@ use flow::Instruction;
 use flow::Kind;
 use flow::Refusal;
 use flow::lent;
+use flow::words;
 use libc::STDOUT_FILENO;
 
 fn print(bytes: &[u8]) {
     io::write_all(STDOUT_FILENO, bytes);
 }
 
-// A field: a comma, and a word, a number or a constant.
+// A field: a comma, and a word, a number, or one that may have a minus.
 fn print_word(word: &[u8]) {
     print(b",");
     print(word);
@@ -24,7 +25,7 @@ fn print_number(n: u64) {
     io::print_decimal(STDOUT_FILENO, n);
 }
 
-fn print_constant(c: i32) {
+fn print_signed(c: i32) {
     if c < 0 {
         print(b",-");
         io::print_decimal(STDOUT_FILENO, (-1 - c) as u64 + 1);
@@ -33,55 +34,27 @@ fn print_constant(c: i32) {
     print_number(c as u64);
 }
 
-// Two fields that are numbers.
-fn print_pair(x: u8, y: u8) {
-    print_number(x as u64);
-    print_number(y as u64);
-}
-
-// A word and three fields that are numbers.
-fn print_three(word: &[u8], x: u8, y: u8, z: u8) {
-    print_word(word);
-    print_pair(x, y);
-    print_number(z as u64);
+// The word of a kind.
+fn print_kind(kind: Kind) {
+    match kind {
+        Kind::Read => print_word(b"read"),
+        Kind::Put => print_word(b"put"),
+        Kind::Copy => print_word(b"copy"),
+        Kind::Set => print_word(b"set"),
+        Kind::Less => print_word(b"less"),
+        Kind::Over => print_word(b"over"),
+        Kind::Under => print_word(b"under"),
+        Kind::Nop => print_word(b"nop"),
+        Kind::Stop => print_word(b"stop"),
+    }
 }
 
 // The fields of an instruction after its number.
 fn print_instruction(x: Instruction) {
     let kind = x.kind;
-    match kind {
-        Kind::Read => {
-            print_three(b"read", x.a, x.v, x.p);
-            print_number(x.m as u64);
-        }
-        Kind::Put => print_three(b"put", x.v, x.a, x.p),
-        Kind::Copy => print_three(b"copy", x.a, x.v, x.p),
-        Kind::Set => {
-            print_word(b"set");
-            print_constant(x.c);
-            print_pair(x.v, x.p);
-        }
-        Kind::Less => {
-            print_three(b"less", x.a, x.v, x.p);
-            print_number(x.m as u64);
-        }
-        Kind::Over => {
-            print_word(b"over");
-            print_constant(x.c);
-            print_number(x.v as u64);
-            print_pair(x.p, x.m);
-        }
-        Kind::Under => {
-            print_word(b"under");
-            print_number(x.v as u64);
-            print_constant(x.c);
-            print_pair(x.p, x.m);
-        }
-        Kind::Nop => {
-            print_word(b"nop");
-            print_number(x.p as u64);
-        }
-        Kind::Stop => print_word(b"stop"),
+    print_kind(kind);
+    for k in 0..words::width(kind) {
+        print_signed(x.number(k));
     }
 }
 
@@ -95,7 +68,8 @@ fn print_refusal(r: Refusal) {
 fn print_head(tapes: u8, outputs: u8, variables: u8) {
     print(b" flow");
     print_number(tapes as u64);
-    print_pair(outputs, variables);
+    print_number(outputs as u64);
+    print_number(variables as u64);
     print(b"\n");
 }
 

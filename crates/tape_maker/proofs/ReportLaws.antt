@@ -4,16 +4,16 @@ use mathlib.Core.Bool.{Bool, true}
 use mathlib.Core.List.{List, map}
 use Prim.Native.Nat.{ℕ, suc, _≤_}
 use native.Mathlib.Omega.{arith}
-use lib.ListN.{length, getD, take, replicate, length-map}
-use lib.Seq.{length-take-le}
+use lib.ListN.{length, getD, take, replicate, length-map, List·getD-map}
+use lib.Seq.{getD-take, length-take-le}
 use Rattle.graph.proofs.Counting.{listed}
-use Rattle.model.specs.Language.{Flow, C1, C2}
+use Rattle.model.specs.Language.{Instruction, stop, Flow, fields, C1, C2}
 use Rattle.model.specs.Machine.{p-exit, m-exit}
 use Rattle.model.specs.Distance.{Says}
 use Rattle.flow.specs.Limits.{maxInstructions}
-use Rattle.flow.specs.Read.{Checked, ok, fault, readFlow}
-use Rattle.flow.specs.Code.{instructionOf, flowOf}
-use Rattle.flow.specs.Legal.{Legal}
+use Rattle.flow.specs.Read.{Checked, ok, fault, all, inRange, isNamed, readFlow}
+use Rattle.flow.specs.Code.{rowOf, instructionOf, flowOf}
+use Rattle.flow.specs.Legal.{Legal, head}
 use Rattle.flow.specs.declared.Refusal.{Refusal}
 use Rattle.flow.specs.declared.Refusal.the-variants.{TooFewCells}
 use Rattle.flow.specs.declared.Flow.{Flow as FlowRows}
@@ -24,6 +24,7 @@ use Rattle.configuration.specs.Step.{startOf}
 use Rattle.configuration.specs.declared.Op.{Op}
 use Rattle.configuration.proofs.Steps.{Fit}
 use Rattle.configuration.proofs.Fitting.{fit-legal}
+use Rattle.configuration.proofs.Prepared.{legal-bytes}
 use Rattle.cells.specs.Cells.{cellWords, cellsOf, zeroed}
 use Rattle.cells.specs.Columns.{Rows}
 use Rattle.cells.specs.Entries.{entriesOf}
@@ -37,7 +38,7 @@ use Rattle.search.specs.Search.{Subject, Finished, SearchedIs}
 use Rattle.search.specs.declared.Searched as Ends
 use Rattle.search.specs.declared.Searched.the-variants.{Done, Full}
 use Rattle.tape_maker.specs.Report.{Outnumber, Count, Reported, refusal, FlowReport, ReportOf, ReportIs}
-use Rattle.tape_maker.specs.Inner.{Each, GivenIs, Planned, reportRefused}
+use Rattle.tape_maker.specs.Inner.{AllBytes, Each, GivenIs, Planned, reportRefused}
 use Rattle.tape_maker.specs.declared.ReportEnd.{ReportEnd}
 use Rattle.tape_maker.specs.declared.ReportAnswer.{ReportAnswer}
 use Rattle.tape_maker.specs.declared.planning.Plan.{Plan}
@@ -47,6 +48,18 @@ pub rows-prepared : (held : FlowRows) {ops : List Op} → Legal (flowOf held)
     → Each (opOf (C1 (flowOf held))) blank (held .instructions) (held .count) ops → Prepared (C1 (flowOf held)) (flowOf held) ops
 unfolding flowOf
 rows-prepared held legal e = record { few = legal .size .1; each = λ i l. e .at i l }
+
+-- the numbers that count fit a byte
+pub rows-bytes : (held : FlowRows) → Legal (flowOf held) → AllBytes (held .instructions) (held .count)
+unfolding flowOf
+rows-bytes held legal i l =
+    let flow = flowOf held in
+    let is = List·getD-map instructionOf (take (held .count) (held .instructions)) i (rowOf stop)
+    ∙ ap instructionOf (getD-take (held .count) (held .instructions) i (rowOf stop) l) in
+    legal-bytes (head flow) (record { tapes = legal .tapes; outputs = legal .outputs; variables = legal .variables }) (length (flow .instructions)) (legal .size .1)
+    (getD (held .instructions) i (rowOf stop))
+    (subst (λ (x : Instruction). all (inRange (head flow)) (fields x) ≡ true) is (legal .ranges (suc i)))
+    (subst (λ (x : Instruction). all (isNamed (length (flow .instructions))) (fields x) ≡ true) is (legal .targets (suc i)))
 
 -- ---- what a search of a planned flow finds
 module _ {flow : Flow} {p : Plan} (plan : Planned flow p) where

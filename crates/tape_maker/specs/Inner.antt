@@ -6,9 +6,10 @@ use Prim.Native.Nat.{ℕ, _<_}
 use lib.ListN.{length, getD, take}
 use Rattle.model.specs.Language.{Instruction, stop, Flow, hasExits, C1, C2}
 use Rattle.flow.specs.Limits.{maxInstructions}
-use Rattle.flow.specs.Code.{instructionOf}
+use Rattle.flow.specs.Code.{rowOf, instructionOf}
 use Rattle.flow.specs.Legal.{Legal}
 use Rattle.flow.specs.declared.Instruction.{Instruction as Row}
+use Rattle.configuration.specs.Inner.{Bytes}
 use Rattle.configuration.specs.Op.{widthOf}
 use Rattle.configuration.specs.Step.{startOf}
 use Rattle.table.specs.Passes.{Prepared}
@@ -21,6 +22,10 @@ use Rattle.tape_maker.specs.declared.planning.Plan.{Plan}
 -- whether the instruction of a row has two exits
 unfoldable pub exitsIn : Row → Bool
 exitsIn x = hasExits (instructionOf x)
+
+-- rows whose numbers that count fit a byte
+abbrev pub AllBytes : List Row → (count : ℕ) → Type 0
+AllBytes rows count = (i : ℕ) → i < count → Bytes (getD rows i (rowOf stop))
 
 -- instruction number i + 1 of those that the first rows hold, `stop` past them
 abbrev pub lineAt : List Row → (count i : ℕ) → Instruction

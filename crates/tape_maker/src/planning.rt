@@ -4,13 +4,12 @@ ghost use Rattle.flow.specs.Code.{flowOf};
 ghost use Rattle.flow.specs.Legal.{Legal};
 ghost use Rattle.configuration.specs.Op.{opOf};
 ghost use Rattle.table.specs.Passes.{blank};
-ghost use Rattle.tape_maker.specs.Inner.{Each, Planned};
+ghost use Rattle.tape_maker.specs.Inner.{AllBytes, Each, Planned};
 use configuration::Op;
 use configuration::Words;
 use configuration::constants;
 use flow::Flow;
 use flow::Instruction;
-use flow::lent;
 
 // What a flow is searched by: its instructions, prepared; the width of its constants, C1 and C2; and the start.
 pub struct Plan {
@@ -27,14 +26,13 @@ fn prepare(
     count: usize,
     lo: i32,
 ) -> [Op; Flow::MAX_INSTRUCTIONS]
-    requires { ⌜ count ≤ 64 ⌝ }
+    requires { ⌜ (count ≤ 64) × AllBytes instructions count ⌝ }
     ensures { λ r. ⌜ Each (opOf lo) blank instructions count r ⌝ }
 {
     let mut ops = [Op::stop(); Flow::MAX_INSTRUCTIONS];
     let mut i = 0;
     while i < count {
-        let x = lent::row_at(instructions, i);
-        ops[i] = constants::prepare(x, lo);
+        ops[i] = constants::prepare(instructions[i], lo);
         i += 1;
     }
     ops

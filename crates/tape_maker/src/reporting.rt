@@ -17,7 +17,7 @@ use flow::Answer;
 use flow::Flow;
 use flow::Instruction;
 use flow::Refusal;
-use flow::lent;
+use flow::words;
 use search::Searched;
 use table::Distances;
 
@@ -50,7 +50,7 @@ pub fn has_two(x: Instruction) -> bool
     ensures { λ r. ⌜ r ≡ exitsIn x ⌝ }
 {
     let kind = x.kind;
-    interpreter::two_exits(kind)
+    words::two_exits(kind)
 }
 
 // Which of the instructions have two exits.
@@ -64,8 +64,7 @@ fn twos(
     let mut two = [false; Flow::MAX_INSTRUCTIONS];
     let mut i = 0;
     while i < count {
-        let x = lent::row_at(instructions, i);
-        two[i] = has_two(x);
+        two[i] = has_two(instructions[i]);
         i += 1;
     }
     two

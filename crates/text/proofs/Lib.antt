@@ -1,4 +1,5 @@
 pub mod Parts
+pub mod Dividing
 pub mod Words
 pub mod Digits
 pub mod Cap

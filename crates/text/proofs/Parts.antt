@@ -103,32 +103,18 @@ module _ (s : List ℕ) (i : ℕ) where
 -- ---- fields
 module _ (s : List ℕ) (i e : ℕ) (found : e ≡ i + until 44 (drop i s)) where
   -- another field follows
-  module _ (h : e < length s) where
-    pub fields-at : fields (drop i s) ≡ take (e - i) (drop i s) ∷ fields (drop (e + 1) s)
-    unfolding fields
-    fields-at = parts-at 44 ([] ∷ []) s i e found h
-
-    pub field-next : (k : ℕ) → getD (fields (drop i s)) (suc k) [] ≡ getD (fields (drop (e + 1) s)) k []
-    field-next k = rw fields-at
-
-    pub count-next : length (fields (drop i s)) ≡ suc (length (fields (drop (e + 1) s)))
-    count-next = rw fields-at
+  pub fields-at : e < length s → fields (drop i s) ≡ take (e - i) (drop i s) ∷ fields (drop (e + 1) s)
+  unfolding fields
+  fields-at h = parts-at 44 ([] ∷ []) s i e found h
 
   -- the last field
-  module _ (l : i ≤ length s) (h : length s ≤ e) where
-    pub fields-at-last : fields (drop i s) ≡ take (e - i) (drop i s) ∷ []
-    unfolding fields parts lead
-    fields-at-last = by (decLe (length s) i)
-      where
-        by : Dec (length s ≤ i) → parts 44 ([] ∷ []) (drop i s) ≡ take (e - i) (drop i s) ∷ []
-        by (yes q) = rw (rest-is 44 ([] ∷ []) s i e found h, drop-of-length-le s q)
-        by (no q) = parts-at-last 44 ([] ∷ []) s i e found h (λ x. refl) (omega arith)
-
-    pub field-none : (k : ℕ) → getD (fields (drop i s)) (suc k) [] ≡ []
-    field-none k = rw fields-at-last
-
-    pub count-last : length (fields (drop i s)) ≡ 1
-    count-last = rw fields-at-last
+  pub fields-at-last : i ≤ length s → length s ≤ e → fields (drop i s) ≡ take (e - i) (drop i s) ∷ []
+  unfolding fields parts lead
+  fields-at-last l h = by (decLe (length s) i)
+    where
+      by : Dec (length s ≤ i) → parts 44 ([] ∷ []) (drop i s) ≡ take (e - i) (drop i s) ∷ []
+      by (yes q) = rw (rest-is 44 ([] ∷ []) s i e found h, drop-of-length-le s q)
+      by (no q) = parts-at-last 44 ([] ∷ []) s i e found h (λ x. refl) (omega arith)
 
   pub field-here : i ≤ length s → getD (fields (drop i s)) 0 [] ≡ take (e - i) (drop i s)
   field-here l = by (decLe (length s) e)

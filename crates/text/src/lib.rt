@@ -2,10 +2,11 @@
 ghost use mathlib.Core.Path.{_≡_};
 ghost use mathlib.Core.List.{[]};
 ghost use mathlib.Core.Option.{Option·map};
-ghost use Prim.Native.Nat.{_+_, _-_, _*_, min, _≤_};
+ghost use Prim.Native.Nat.{_+_, _-_, _*_, min, _≤_, _<_};
 ghost use lib.IntN.{pos};
 ghost use lib.ListN.{length, getD, drop};
 ghost use Rattle.text.specs.Split.{fields, until, sameWord};
+ghost use Rattle.text.specs.Divided.{kept, Divided};
 ghost use Rattle.text.specs.Number.{digitsAfter, natural, numeral};
 ghost use Rattle.text.specs.Capped.{cap, numberOf};
 
@@ -13,6 +14,17 @@ ghost use Rattle.text.specs.Capped.{cap, numberOf};
 pub enum Number {
     Value(i64),
     Bad,
+}
+
+// How many fields a line has, and where the first of them end.
+pub struct Fields {
+    pub count: usize,
+    pub ends: [usize; Fields::KEPT],
+}
+
+impl Fields {
+    // The ends of so many fields are kept; further ones are only counted.
+    pub const KEPT: usize = 6;
 }
 
 const CAP: u64 = 10000000000;
@@ -32,38 +44,40 @@ pub fn end_of(text: &[u8], from: usize, byte: u8) -> usize
     i
 }
 
-// Field k of a line, counted from 0; the empty part at the line's start where there is none.
-pub fn field(line: &[u8], k: usize) -> &[u8]
-    ensures { λ r. ⌜ now r ≡ getD (fields (now (line .entry))) k [] ⌝ }
+// Divides a line into its fields.
+pub fn divide(line: &[u8]) -> Fields
+    ensures { λ r. ⌜ Divided (now (line .entry)) (r .count) (r .ends) ⌝ }
 {
-    let mut passed = 0;
-    let mut at = 0;
-    while passed < k {
-        let comma = end_of(line, at, b',');
-        if comma == line.len() {
-            return &line[0..0];
-        }
-        at = comma + 1;
-        passed += 1;
-    }
-    let e = end_of(line, at, b',');
-    &line[at..e]
-}
-
-// How many fields a line has.
-pub fn field_count(line: &[u8]) -> usize
-    ensures { λ r. ⌜ r ≡ length (fields (now (line .entry))) ⌝ }
-{
-    let mut count = 1;
+    let mut ends = [0; Fields::KEPT];
+    let mut count = 0;
     let mut at = 0;
     loop {
         let comma = end_of(line, at, b',');
-        if comma == line.len() {
-            return count;
+        if count < Fields::KEPT {
+            ends[count] = comma;
         }
         count += 1;
+        if comma == line.len() {
+            return Fields { count, ends };
+        }
         at = comma + 1;
     }
+}
+
+// Field k of a divided line, counted from 0; the empty part at the line's start where there is none.
+pub fn field(line: &[u8], ends: [usize; Fields::KEPT], count: usize, k: usize) -> &[u8]
+    requires { ⌜ Divided (now line) count ends × (k < kept) ⌝ }
+    ensures { λ r. ⌜ now r ≡ getD (fields (now (line .entry))) k [] ⌝ }
+{
+    if count <= k {
+        return &line[0..0];
+    }
+    let end = ends[k];
+    if k == 0 {
+        return &line[0..end];
+    }
+    let start = ends[k - 1] + 1;
+    &line[start..end]
 }
 
 // Whether two words are the same.

@@ -1,14 +1,15 @@
 -- `run_from` meets its contract. The invariant is `Running` (RunLaws), the measure what is left of the limit; each of the three answers
 -- cites the law on that end, and the turn cites `running-on` with what the calls ensure.
-use mathlib.Core.Path.{_≡_, sym, _∙_}
+use mathlib.Core.Path.{_≡_, refl, sym, _∙_}
 use mathlib.Core.Bool.{false, _&&_}
 use Prim.Native.Nat.{_<_, _≤_, ℕ, _+_, _-_}
 use native.Mathlib.Omega.{arith}
 use borrow.Author.Needs.{needs}
 use denote.Ref.{now}
 use lib.ListN.{length, getD}
-use lib.IntN.{pos}
+use mathlib.Core.List.{[]}
 use lib.Dec.{leb}
+use Rattle.flow.specs.Code.{row}
 use Rattle.flow.specs.declared.Instruction.{Instruction as Row}
 use Rattle.flow.specs.declared.Kind.the-variants.{Read}
 use Rattle.interpreter.proofs.RowLaws.{row-fits}
@@ -29,7 +30,7 @@ abbrev μ-loop : tie.MeasureT-loop
 
 -- what stands past the rows
 abbrev past : Row
-past = record { kind = Read; a = 0; v = 0; c = pos 0; p = 0; m = 0 }
+past = row Read []
 
 -- the next instruction, and what the three tests before a step have shown
 abbrev coming : tie.At-loop Inv-loop μ-loop → Row
@@ -58,8 +59,8 @@ fits : (l : tie.At-loop Inv-loop μ-loop) → RowFits (coming l)
 fits l = row-fits (l .before .before .args .t1) (l .loop .next) (l .loop .inv .shows .named) past (l .before .before .pre .0)
 
 -- the turn that a place at its end belongs to
-abbrev turning : tie.After-target Inv-loop μ-loop → tie.Else3 Inv-loop μ-loop
-turning c = c .before .before .before .before .before .before .before .before .before .before .before .before .before .before .before
+abbrev turning : tie.After-count Inv-loop μ-loop → tie.Else3 Inv-loop μ-loop
+turning c = c .before .before .before .before .before .before .before .before .before .before .before .before .before .before
 
 loop-holds : tie.Need-loop-holds Inv-loop μ-loop
 loop-holds c = let a = c .before in running-start _ _ _ _ _ _ _ _ (a .pre .0) (a .pre .1 .1 .0)
@@ -105,7 +106,7 @@ loop-less c = let e = turning c in less _ _ (more (e .before .before))
 loop-again : tie.Need-loop-again Inv-loop μ-loop
 loop-again c = let e = turning c in
     let l = e .before .before .before .before .before .before in let a = l .before .before in
-    let u = c .before .before .before .before in
+    let u = c .before .before .before in
     let w = u .before .before .before .before .before .before .before in
     running-on _ _ _ _ _ _ _ _ (a .pre .0) (a .pre .1 .1 .1) _ _ (l .loop .inv) past (more (e .before .before))
     (goes (e .before .before .before)) (free e)
@@ -114,9 +115,9 @@ loop-again c = let e = turning c in
       numbers = w .put .ensures .1 .0;
       values = w .put .ensures .1 .1;
       stepped = u .step .ensures;
-      p = c .before .count .ensures .0;
-      m = c .before .count .ensures .1;
-      next = c .target .ensures;
+      p = c .count .ensures .0;
+      m = c .count .ensures .1;
+      next = refl;
     })
 
 same-length : tie.Need-same-length Inv-loop μ-loop
@@ -165,7 +166,6 @@ run-from-spec =
     put-requires
     step-requires
     count-requires
-    (λ c κs. search needs)
     add-steps
     loop-less
     loop-again

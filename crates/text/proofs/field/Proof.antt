@@ -1,62 +1,44 @@
--- `text::field` meets its contract: field k of the line is field k - passed of what stands from `at` on.
-use mathlib.Core.Path.{_≡_, sym, ap, _∙_}
-use mathlib.Core.List.{[]}
-use Prim.Native.Nat.{ℕ, suc, _+_, _-_, _≤_}
-use native.Mathlib.Nat.{sub-zero}
+-- `text::field` meets its contract: field k stands between where it begins and where it ends.
+use mathlib.Core.Path.{_≡_, sym}
+use Prim.Native.Nat.{_+_, _-_}
 use native.Mathlib.Omega.{arith}
 use denote.Ref.{now}
-use lib.ListN.{length, getD, drop}
-use Rattle.text.specs.Split.{fields}
-use Rattle.text.proofs.Parts.{field-next, field-none, field-here}
+use lib.ListN.{getD}
+use Rattle.text.specs.Divided.{begins, Between}
+use Rattle.text.proofs.Dividing.{begins-first, begins-later, field-cut, field-none}
 use Rattle.text.proofs.field.Statement.{statement}
 use Rattle.text.proofs.field.Tie as tie
 
-abbrev Inv-loop : tie.InvT-loop
-Inv-loop line k passed₀ at₀ passed at =
-    (at ≤ length line) × (passed ≤ k) × (getD (fields (drop at line)) (k - passed) [] ≡ getD (fields line) k [])
-
-abbrev μ-loop : tie.MeasureT-loop
-μ-loop line k passed₀ at₀ passed at = k - passed
-
-loop-holds : tie.Need-loop-holds Inv-loop μ-loop
-loop-holds c =
-    let a = c .before .args in
-    (omega arith, omega arith, ap (λ (n : ℕ). getD (fields (now (a .line))) n []) (sub-zero (a .k)))
-
-returns : tie.Need-returns Inv-loop μ-loop
+returns : tie.Need-returns
 returns c =
-    let a = c .before .before .before .before .before .before .args in
-    let l = c .before .before .before .before .loop in
-    let e = c .before .before .end-of in
-    let more : a .k - l .passed ≡ suc (a .k - (l .passed + 1)) = omega arith in
-    sym (field-none (now (a .line)) (l .at) (e .result) (e .ensures .0) (l .inv .0) (omega arith) (a .k - (l .passed + 1)))
-    ∙ (rw more at (l .inv .2))
+    let s = c .before .before in
+    let a = s .args in
+    sym (field-none (now (a .line)) (a .t2) (a .k) (a .count) (s .pre .0) (c .before .if1 .taken))
 
-loop-again : tie.Need-loop-again Inv-loop μ-loop
-loop-again c =
-    let a = c .before .before .before .before .before .args in
-    let l = c .before .before .before .loop in
-    let e = c .before .end-of in
-    let more : a .k - l .passed ≡ suc (a .k - (l .passed + 1)) = omega arith in
-    let next = field-next (now (a .line)) (l .at) (e .result) (e .ensures .0) (omega arith) (a .k - (l .passed + 1)) in
-    (omega arith, omega arith, sym next ∙ (rw more at (l .inv .2)))
+-- what is known of field k where the line has it
+between : (c : tie.Else1) → Between (now (c .before .args .line)) (c .before .args .t2) (c .before .args .k)
+between c = c .before .pre .0 .between (c .before .args .k) (c .before .pre .1) (c .if1 .left)
 
-returns-2 : tie.Need-returns-2 Inv-loop μ-loop
+returns-2 : tie.Need-returns-2
 returns-2 c =
-    let a = c .before .before .before .before .before .args in
-    let l = c .before .before .before .loop in
-    let e = c .before .end-of2 in
-    let here : a .k - l .passed ≡ 0 = omega arith in
-    sym (field-here (now (a .line)) (l .at) (e .result) (e .ensures .0) (l .inv .0)) ∙ (rw here at (l .inv .2))
+    let a = c .before .before .before .args in
+    field-cut (now (a .line)) (a .t2) (a .k) 0 (begins-first (a .t2) (a .k) (c .before .if2 .taken)) (between (c .before .before))
+
+-- a field that is not the first
+later : (c : tie.Else2) →
+    let a = c .before .before .args in
+    begins (a .t2) (a .k) ≡ getD (a .t2) (a .k - 1) 0 + 1
+later c = let a = c .before .before .args in begins-later (a .t2) (a .k) (c .if2 .left)
+
+returns-3 : tie.Need-returns-3
+returns-3 c =
+    let a = c .before .before .before .args in
+    field-cut (now (a .line)) (a .t2) (a .k) _ (omega (arith, later (c .before))) (between (c .before .before))
 
 pub field-spec : {M : Type 1} → statement M
 field-spec =
     tie.close
     (tie.spec
-    Inv-loop
-    μ-loop
-    loop-holds
-    (λ c κs. omega arith)
     (λ c. omega arith)
     (λ c. omega arith)
     (λ c. omega arith)
@@ -64,9 +46,14 @@ field-spec =
     (λ c. omega arith)
     (λ c. omega arith)
     (λ c. omega arith)
-    loop-again
-    (λ c κs. omega arith)
+    (λ c. omega arith)
+    (λ c. omega (arith, between (c .before)))
+    returns-2
     (λ c. omega arith)
     (λ c. omega arith)
     (λ c. omega arith)
-    returns-2)
+    (λ c. omega (arith, between (c .before), later c))
+    (λ c. omega (arith, between (c .before), later c))
+    (λ c. omega (arith, between (c .before), later c))
+    (λ c. omega (arith, between (c .before), later c))
+    returns-3)

@@ -1,8 +1,12 @@
 -- `line::end` meets its contract: each way out is one of the definition's checks.
-use mathlib.Core.Path.{sym, _∙_}
+use mathlib.Core.Path.{_≡_, sym, ap, _∙_}
 use borrow.Author.Needs.{needs}
 use borrow.Author.Tests.{eq-eqb, ne-eqb, not-true, not-false}
+use Rattle.model.specs.Language.{Instruction, fields}
+use Rattle.flow.specs.Read.{all, inRange}
+use Rattle.flow.specs.Code.{row, instructionOf}
 use Rattle.flow.specs.Line.{endLine}
+use Rattle.flow.proofs.RowLaws.{built-row}
 use Rattle.flow.proofs.line.end.Statement.{statement}
 use Rattle.flow.proofs.line.end.Tie as tie
 
@@ -10,13 +14,18 @@ returns : tie.Need-returns
 unfolding endLine
 returns c = rw (ne-eqb _ _ (c .if1 .taken))
 
+-- the numbers lie in their ranges, of the row that they make
+tested : (c : tie.After-in-range) → let a = c .before .before .args in
+    c .in-range .result ≡ all (inRange (a .head)) (fields (instructionOf (row (a .kind) (a .numbers))))
+tested c = let a = c .before .before .args in c .in-range .ensures ∙ sym (ap (λ (x : Instruction). all (inRange (a .head)) (fields x)) (built-row (a .numbers) (a .kind)))
+
 returns-2 : tie.Need-returns-2
 unfolding endLine
-returns-2 c = rw (eq-eqb _ _ (c .before .before .if1 .left), sym (c .before .in-range .ensures) ∙ not-true _ (c .if2 .taken))
+returns-2 c = rw (eq-eqb _ _ (c .before .before .if1 .left), sym (tested (c .before)) ∙ not-true _ (c .if2 .taken))
 
 returns-3 : tie.Need-returns-3
 unfolding endLine
-returns-3 c = rw (eq-eqb _ _ (c .before .before .if1 .left), sym (c .before .in-range .ensures) ∙ not-false _ (c .if2 .left))
+returns-3 c = rw (eq-eqb _ _ (c .before .before .if1 .left), sym (tested (c .before)) ∙ not-false _ (c .if2 .left))
 
 pub end-spec : {M : Type 1} → statement M
 end-spec =

@@ -1,48 +1,57 @@
 -- `flow::lines::check_targets` meets its contract.
 use mathlib.Core.Path.{_≡_, refl, sym, ap, _∙_}
-use mathlib.Core.List.{map}
+use mathlib.Core.List.{List, [], map}
 use Prim.Native.Nat.{_+_, _-_, _≤_}
 use native.Mathlib.Omega.{arith}
 use borrow.Author.Needs.{needs}
 use lib.ListN.{getD, take, drop}
 use borrow.Author.Tests.{not-true, not-false}
 use Rattle.flow.proofs.ReadLaws.{target-lost, target-named, targets-end}
-use Rattle.model.specs.Language.{stop, fields}
+use lib.IntN.{ℤ}
+use Rattle.model.specs.Language.{fields}
+use Rattle.flow.specs.Words.{built}
 use Rattle.flow.specs.Read.{all, isNamed, lostTarget}
-use Rattle.flow.specs.Code.{rowOf, instructionOf}
+use Rattle.flow.specs.Code.{row, instructionOf}
 use Rattle.flow.specs.declared.Instruction.{Instruction as Row}
+use Rattle.flow.specs.declared.Kind.the-variants.{Read}
 use Rattle.flow.proofs.lines.check_targets.Statement.{statement}
 use Rattle.flow.proofs.lines.check_targets.Tie as tie
 
 abbrev Inv-loop : tie.InvT-loop
-Inv-loop rows count i₀ i = (i ≤ count) × (lostTarget count (i + 2) (drop i (map instructionOf (take count rows))) ≡ lostTarget count 2 (map instructionOf (take count rows)))
+Inv-loop count rows i₀ i = (i ≤ count) × (lostTarget count (i + 2) (drop i (map instructionOf (take count rows))) ≡ lostTarget count 2 (map instructionOf (take count rows)))
 
 abbrev μ-loop : tie.MeasureT-loop
-μ-loop rows count i₀ i = count - i
+μ-loop count rows i₀ i = count - i
 
--- whether the row fetched names only instructions that there are, of the row that stands there
-named : (c : tie.After-is-named Inv-loop μ-loop) → let a = c .before .before .before .before .args in
-    c .is-named .result ≡ all (isNamed (a .count)) (fields (instructionOf (getD (a .rows) (c .before .before .before .loop .i) (rowOf stop))))
-named c = c .is-named .ensures ∙ ap (λ (x : Row). all (isNamed (c .before .before .before .before .args .count)) (fields (instructionOf x))) (c .before .row-at .ensures)
+-- what stands past the rows
+abbrev none-there : Row
+none-there = row Read []
+
+-- whether the row names only instructions that there are
+named : (c : tie.After-is-named Inv-loop μ-loop) → let l = c .before .before .before .before in
+    c .is-named .result ≡ all (isNamed (l .before .args .count)) (fields (instructionOf (getD (l .before .args .t1) (l .loop .i) none-there)))
+named c = let l = c .before .before .before .before in
+    let x = getD (l .before .args .t1) (l .loop .i) none-there in
+    c .is-named .ensures ∙ ap (λ (zs : List ℤ). all (isNamed (l .before .args .count)) (fields (built (x .kind) zs))) (c .before .numbers .ensures)
 
 loop-holds : tie.Need-loop-holds Inv-loop μ-loop
 loop-holds c = (omega arith, refl)
 
 returns : tie.Need-returns Inv-loop μ-loop
-returns c = let a = c .before .before .before .before .before .args in
-    target-lost (a .count) (a .count) (a .rows) (search needs) (c .before .before .before .before .loop .i) _ (search needs) (sym (named (c .before)) ∙ not-true _ (c .if1 .taken))
-    ∙ c .before .before .before .before .loop .inv .1
+returns c = let a = c .before .before .before .before .before .before .args in
+    target-lost (a .count) (a .count) (a .t1) (search needs) (c .before .before .before .before .before .loop .i) _ (search needs) (sym (named (c .before)) ∙ not-true _ (c .if1 .taken))
+    ∙ c .before .before .before .before .before .loop .inv .1
 
 loop-again : tie.Need-loop-again Inv-loop μ-loop
-loop-again c = let a = c .before .before .before .before .before .args in (
+loop-again c = let a = c .before .before .before .before .before .before .args in (
   omega arith,
-  target-named (a .count) (a .count) (a .rows) (search needs) (c .before .before .before .before .loop .i) _ (search needs) (sym (named (c .before)) ∙ not-false _ (c .if1 .left))
-      ∙ c .before .before .before .before .loop .inv .1,
+  target-named (a .count) (a .count) (a .t1) (search needs) (c .before .before .before .before .before .loop .i) _ (search needs) (sym (named (c .before)) ∙ not-false _ (c .if1 .left))
+      ∙ c .before .before .before .before .before .loop .inv .1,
 )
 
 returns-2 : tie.Need-returns-2 Inv-loop μ-loop
 returns-2 c = let a = c .before .before .args in
-    targets-end (a .count) (a .count) (a .rows) (search needs) (c .before .loop .i) (omega arith) ∙ c .before .loop .inv .1
+    targets-end (a .count) (a .count) (a .t1) (search needs) (c .before .loop .i) (omega arith) ∙ c .before .loop .inv .1
 
 pub check-targets-spec : {M : Type 1} → statement M
 check-targets-spec =
@@ -51,6 +60,8 @@ check-targets-spec =
     Inv-loop
     μ-loop
     loop-holds
+    (λ c. search needs)
+    (λ c. search needs)
     (λ c κs. search needs)
     (λ c. search needs)
     (λ c κs. search needs)

@@ -1,7 +1,6 @@
 -- `lines::read_lines` meets its contract. The outer loop: the rows kept, in front of what the definition says of the lines from here on, are what
 -- it says of all. The inner loop says the same of the numbers of a line. A line is read in three steps, whose faults are those of the line.
-use mathlib.Core.Path.{_≡_, refl, sym, ap, _∙_}
-use mathlib.Core.Bool.{Bool}
+use mathlib.Core.Path.{_≡_, refl, sym, ap, _∙_, subst}
 use mathlib.Core.List.{List}
 use Prim.Native.Nat.{ℕ, _+_, _-_, _≤_, _<_}
 use native.Mathlib.Omega.{arith}
@@ -9,33 +8,34 @@ use borrow.Author.Needs.{needs}
 use denote.Ref.{now}
 use lib.IntN.{ℤ, pos}
 use lib.ListN.{length, take, drop, set, replicate, length-set}
-use mir.Syntax.{w64}
+use mir.Syntax.{w32, w64}
 use mir.Val.{SFits, toZ, ofZ}
 use mir.Facts.{toZ-ofZ}
 use Rattle.model.specs.Language.{stop}
 use Rattle.text.specs.Split.{lines, fields}
-use Rattle.text.specs.declared.Number.the-variants.{Value}
-use Rattle.flow.specs.Words.{constantAt}
+use Rattle.flow.specs.Words.{sorts}
 use Rattle.flow.specs.Read.{Checked, ok, fault, numerals, readLines}
-use Rattle.flow.specs.Code.{rowOf}
-use Rattle.flow.specs.Inner.{kept, answered, linesIn}
+use Rattle.flow.specs.Code.{row as rowBy, rowOf}
+use Rattle.flow.specs.Inner.{bounded, kept, answered, linesIn}
 use Rattle.flow.specs.Line.{begunIn, beginLine, endedIn}
 use Rattle.flow.specs.declared.Head.{Head}
 use Rattle.flow.specs.declared.Instruction.{Instruction as Row}
 use Rattle.flow.specs.declared.Refusal.{Refusal}
 use Rattle.flow.specs.declared.Refusal.the-variants.{BadNumber}
 use Rattle.flow.specs.declared.line.Start.{Start}
+use Rattle.flow.specs.declared.Sort.{Sort}
+use Rattle.flow.proofs.RowLaws.{width-bound}
 use Rattle.flow.proofs.LineLaws as laws
 use Rattle.flow.proofs.lines.read_lines.Statement.{statement}
 use Rattle.flow.proofs.lines.read_lines.Tie as tie
 
 abbrev Inv-loop : tie.InvT-loop
-Inv-loop text from head rows count at end line start kind nums₀ k₀ k-end nums k =
-    (k ≤ k-end) × (length nums ≡ 4)
-    × (laws.behind (constantAt kind) (fields line) nums k ≡ laws.cappedAll (numerals (constantAt kind) (drop 2 (fields line))))
+Inv-loop text from head rows count at end line cut start kind numbers₀ k₀ k-end numbers k =
+    (k ≤ k-end) × (length numbers ≡ 4) × (drop k numbers ≡ replicate (4 - k) (pos 0))
+    × (laws.behind (sorts kind) (fields line) numbers k ≡ laws.keptAll (numerals (sorts kind) (drop 2 (fields line))))
 
 abbrev μ-loop : tie.MeasureT-loop
-μ-loop text from head rows count at end line start kind nums₀ k₀ k-end nums k = k-end - k
+μ-loop text from head rows count at end line cut start kind numbers₀ k₀ k-end numbers k = k-end - k
 
 abbrev Inv-lines : tie.InvT-lines
 Inv-lines text from head rows₀ count₀ at₀ rows count at =
@@ -96,13 +96,13 @@ module _ (c : tie.After-line Inv-loop μ-loop Inv-lines μ-lines) where
 -- ---- it shows no fault before the numbers after its word
 module _ (c : tie.After-known-told Inv-loop μ-loop Inv-lines μ-lines) where
   abbrev line-at : tie.After-line Inv-loop μ-loop Inv-lines μ-lines
-  line-at = c .before .before .before .before
+  line-at = c .before .before .before .before .before
 
   abbrev start : Start
   start = c .before .start .given .0 .0
 
-  abbrev cs : List Bool
-  cs = constantAt (start .kind)
+  abbrev cs : List Sort
+  cs = sorts (start .kind)
 
   started : beginLine (count line-at) (fs line-at) ≡ ok start
   started = sym (c .before .before .before .begin .ensures) ∙ ap begunIn (c .before .start .given .1)
@@ -120,15 +120,15 @@ module _ (c : tie.At-loop Inv-loop μ-loop Inv-lines μ-lines) where
   k = c .loop .k
 
   abbrev nums : List ℤ
-  nums = c .loop .nums
+  nums = c .loop .numbers
 
 within : (c : tie.In-loop Inv-loop μ-loop Inv-lines μ-lines) → (k (c .before) < 4) × (k (c .before) < length (cs (start-at (c .before))))
-within c = let width = c .before .before .width .ensures in (omega (arith, laws.width-bound (start (start-at (c .before)) .kind)), omega arith)
+within c = let width = c .before .before .width .ensures in (omega (arith, width-bound (start (start-at (c .before)) .kind)), omega arith)
 
 -- ---- all of them are read, and its row is made and tested
 module _ (c : tie.After-end Inv-loop μ-loop Inv-lines μ-lines) where
   abbrev past : tie.At-loop Inv-loop μ-loop Inv-lines μ-lines
-  past = c .before .before .before
+  past = c .before .before
 
   abbrev its-start : tie.After-known-told Inv-loop μ-loop Inv-lines μ-lines
   its-start = start-at past
@@ -136,13 +136,17 @@ module _ (c : tie.After-end Inv-loop μ-loop Inv-lines μ-lines) where
   abbrev its-line : tie.After-line Inv-loop μ-loop Inv-lines μ-lines
   its-line = line-at its-start
 
-  stepped : endedIn (c .end .result) ≡ laws.stepped (head its-line) (count its-line) (fs its-line)
+  -- the row of the line
+  abbrev row : Row
+  row = rowBy (start its-start .kind) (nums past)
+
+  stepped : endedIn row (c .end .result) ≡ laws.stepped (head its-line) (count its-line) (fs its-line)
   stepped =
       let w : k past ≡ length (cs its-start) = omega (arith, past .before .width .ensures) in
-      let (zs, read, is) = laws.numbers-end (cs its-start) (fs its-line) (nums past) (k past) (past .loop .inv .2) (omega arith) in
+      let (zs, read, is) = laws.numbers-end (cs its-start) (fs its-line) (nums past) (k past) (past .loop .inv .3) (omega arith) in
       c .end .ensures
       ∙ laws.steps-end (head its-line) (count its-line) (fs its-line) (start its-start) (started its-start) zs read (nums past)
-      (is ∙ ap (λ (n : ℕ). take n (nums past)) w) (c .before .build .result) (c .before .build .ensures)
+      (is ∙ ap (λ (n : ℕ). take n (nums past)) w) (subst (λ (n : ℕ). drop n (nums past) ≡ replicate (4 - n) (pos 0)) w (past .loop .inv .2))
 
 lines-holds : tie.Need-lines-holds Inv-loop μ-loop Inv-lines μ-lines
 lines-holds c = (omega arith, omega arith, refl, ap (replicate 64) (c .stop .ensures), laws.lines-start (replicate 64 (c .stop .result)) _)
@@ -150,59 +154,64 @@ lines-holds c = (omega arith, omega arith, refl, ap (replicate 64) (c .stop .ens
 loop-holds : tie.Need-loop-holds Inv-loop μ-loop Inv-lines μ-lines
 loop-holds c =
     let s = c .before in
-    (omega arith, refl, laws.numbers-start (cs s) (fs (line-at s)) (replicate 4 (pos 0)))
+    (omega arith, refl, refl, laws.numbers-start (cs s) (fs (line-at s)) (replicate 4 (pos 0)))
 
 number-at-requires : tie.Need-number-at-requires Inv-loop μ-loop Inv-lines μ-lines
-number-at-requires c κs = within c .0
+number-at-requires c κs = (start-at (c .before) .before .before .before .before .divide .ensures, within c .0)
 
-mul-nums : tie.Need-mul-nums Inv-loop μ-loop Inv-lines μ-lines
-mul-nums c = omega (arith, within (c .before .before .before .before) .0)
+mul-numbers : tie.Need-mul-numbers Inv-loop μ-loop Inv-lines μ-lines
+mul-numbers c = omega (arith, within (c .before .before .before .before .before) .0)
 
-array-set-from-nums : tie.Need-array-set-from-nums Inv-loop μ-loop Inv-lines μ-lines
-array-set-from-nums c = omega (arith, within (c .before .before .before .before) .0)
+array-set-from-numbers : tie.Need-array-set-from-numbers Inv-loop μ-loop Inv-lines μ-lines
+array-set-from-numbers c = omega (arith, within (c .before .before .before .before .before) .0)
 
 loop-again : tie.Need-loop-again Inv-loop μ-loop Inv-lines μ-lines
 loop-again c =
-    let m = c .before .before .before .before .before in
+    let m = c .before .before .before .before .before .before in
     let s = start-at m in
-    let (four, width) = within (c .before .before .before .before) in
-    let v = c .before .x .given .0 .0 in
+    let (four, width) = within (c .before .before .before .before .before) in
+    let v = c .before .before .x .given .0 .0 in
     let f : SFits w64 v = search needs in
-    let read = sym (c .before .before .before .number-at .ensures) ∙ c .before .x .given .1 ∙ ap Value (sym (toZ-ofZ f)) in (
+    let g : SFits w32 (c .in-bounds .result) = search needs in
+    let read = sym (c .before .before .before .before .number-at .ensures) ∙ c .before .before .x .given .1 in
+    let is : toZ w32 (ofZ w32 (c .in-bounds .result)) ≡ bounded v = toZ-ofZ g ∙ c .in-bounds .ensures ∙ ap bounded (toZ-ofZ f) in (
       omega arith,
       simp length-set (m .loop .inv .1),
-      laws.numbers-more (cs s) (fs (line-at s)) (nums m) (k m) (m .loop .inv .2) width (begun s .1) (toZ w64 (ofZ w64 v)) (omega arith) read,
+      laws.zeros-less (toZ w32 (ofZ w32 (c .in-bounds .result))) (nums m) (k m) four (m .loop .inv .2),
+      rw is (laws.numbers-more (cs s) (fs (line-at s)) (nums m) (k m) (m .loop .inv .3) width (begun s .1) v (omega arith) read),
     )
 
-with-row-requires : tie.Need-with-row-requires Inv-loop μ-loop Inv-lines μ-lines
-with-row-requires c κs = omega (arith, begun (its-start (c .before .before .before)) .0)
+mul-rows : tie.Need-mul-rows Inv-loop μ-loop Inv-lines μ-lines
+mul-rows c = omega (arith, begun (its-start (c .before .before .before)) .0)
+
+array-set-from-rows : tie.Need-array-set-from-rows Inv-loop μ-loop Inv-lines μ-lines
+array-set-from-rows c = omega (arith, begun (its-start (c .before .before .before)) .0)
 
 add-count : tie.Need-add-count Inv-loop μ-loop Inv-lines μ-lines
-add-count c = omega (arith, begun (its-start (c .before .before .before .before)) .0)
+add-count c = omega (arith, begun (its-start (c .before .before .before)) .0)
 
 add-at : tie.Need-add-at Inv-loop μ-loop Inv-lines μ-lines
 add-at c =
-    let l = its-line (c .before .before .before .before) in
+    let l = its-line (c .before .before .before) in
     omega (arith, l .before .end-of .ensures .1, l .before .before .before .before .before .before .good .0 .1)
 
 lines-less : tie.Need-lines-less Inv-loop μ-loop Inv-lines μ-lines
 lines-less c =
-    let l = its-line (c .before .before .before .before) in
+    let l = its-line (c .before .before .before) in
     omega (arith, l .before .end-of .ensures .1, l .before .before .if1 .left, l .before .end-of .ensures .0)
 
 lines-again : tie.Need-lines-again Inv-loop μ-loop Inv-lines μ-lines
 lines-again c =
-    let t = c .before .before .before .before in
+    let t = c .before .before .before in
     let l = its-line t in
     let few = begun (its-start t) .0 in
-    let row = c .before .before .kept .given .0 .0 in
     let inv = l .before .before .before .lines .inv in
-    let is = c .with-row .ensures in (
+    let is = ap (set (rows l) (count l)) (c .new .ensures) in (
       omega (arith, l .before .end-of .ensures .1),
       omega (arith, few),
       ap length is ∙ simp length-set (inv .2),
-      ap (drop (count l + 1)) is ∙ laws.stops-less (rowOf stop) row (rows l) (count l) few (inv .3),
-      more l row (c .with-row .result) is few (sym (stepped t) ∙ ap endedIn (c .before .before .kept .given .1)),
+      ap (drop (count l + 1)) is ∙ laws.stops-less (rowOf stop) (row t) (rows l) (count l) few (inv .3),
+      more l (row t) (set (rows l) (count l) (c .new .result)) is few (sym (stepped t) ∙ ap (endedIn (row t)) (c .before .enum-told2 .given .1)),
     )
 
 returns : tie.Need-returns Inv-loop μ-loop Inv-lines μ-lines
@@ -215,7 +224,7 @@ returns c =
 returns-2 : tie.Need-returns-2 Inv-loop μ-loop Inv-lines μ-lines
 unfolding linesIn answered
 returns-2 c =
-    let l = c .before .before .before .before in
+    let l = c .before .before .before .before .before in
     let r = c .before .r .given .0 .0 in
     refused l r
     (laws.steps-begin (head l) (count l) (fs l) r (sym (c .before .before .before .begin .ensures) ∙ ap begunIn (c .before .r .given .1)))
@@ -228,14 +237,14 @@ returns-3 c =
     let l = line-at s in
     refused l (BadNumber (count l + 2))
     (laws.steps-bad (head l) (count l) (fs l) (start s) (started s)
-    (laws.numbers-bad (cs s) (fs l) (nums m) (k m) (m .loop .inv .2) (within (c .before .before .before) .1) (begun s .1)
+    (laws.numbers-bad (cs s) (fs l) (nums m) (k m) (m .loop .inv .3) (within (c .before .before .before) .1) (begun s .1)
     (sym (c .before .before .number-at .ensures) ∙ c .enum-told .given .1)))
 
 returns-4 : tie.Need-returns-4 Inv-loop μ-loop Inv-lines μ-lines
 unfolding linesIn answered
 returns-4 c =
     let t = c .before .before .before in
-    refused (its-line t) (c .before .r2 .given .0 .0) (sym (stepped t) ∙ ap endedIn (c .before .r2 .given .1))
+    refused (its-line t) (c .before .r2 .given .0 .0) (sym (stepped t) ∙ ap (endedIn (row t)) (c .before .r2 .given .1))
 
 pub read-lines-spec : {M : Type 1} → statement M
 read-lines-spec =
@@ -251,7 +260,8 @@ read-lines-spec =
     (λ c. omega arith)
     (λ c. omega arith)
     (λ c. omega arith)
-    (λ c κs. omega arith)
+    (λ c κs. search needs)
+    (λ c κs. (omega arith, c .divide .ensures))
     (λ c. search needs)
     (λ c. search needs)
     (λ c κs. search needs)
@@ -260,16 +270,18 @@ read-lines-spec =
     (λ c. search needs)
     (λ c. search needs)
     (λ c. omega arith)
-    mul-nums
-    array-set-from-nums
+    (λ c κs. search needs)
+    mul-numbers
+    array-set-from-numbers
     (λ c. omega arith)
     (λ c. omega arith)
     loop-again
-    (λ c κs. search needs)
     (λ c κs. omega arith)
     (λ c. search needs)
     (λ c. search needs)
-    with-row-requires
+    (λ c κs. search needs)
+    mul-rows
+    array-set-from-rows
     add-count
     add-at
     lines-less

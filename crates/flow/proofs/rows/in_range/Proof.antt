@@ -1,35 +1,86 @@
--- `flow::rows::in_range` meets its contract.
-use mathlib.Core.Path.{ap, _∙_}
-use mathlib.Core.Bool.{_&&_}
+-- `flow::rows::in_range` meets its contract: what the fields from k on come to is what all of them come to.
+use mathlib.Core.Path.{_≡_, sym, ap, ap₂, _∙_}
+use Prim.Native.Nat.{_-_, _≤_, _<_}
+use native.Mathlib.Omega.{arith}
 use borrow.Author.Needs.{needs}
+use borrow.Author.Tests.{not-true, not-false}
 use lib.IntN.{ℤ}
-use lib.Signed.{leZ}
+use lib.ListN.{length}
 use mir.Syntax.{w32}
 use mir.Val.{SFits}
 use mir.Facts.{toZ-ofZ}
-use Rattle.flow.specs.Limits.{leastConstant, greatestConstant}
-use Rattle.flow.proofs.RowLaws.{in-range-tests}
+use Rattle.model.specs.Language.{fields}
+use Rattle.flow.specs.Words.{sorts, built, field, at}
+use Rattle.flow.specs.Read.{all, inRange}
+use Rattle.flow.specs.declared.Sort.{Sort}
+use Rattle.flow.proofs.RowLaws as laws
 use Rattle.flow.proofs.rows.in_range.Statement.{statement}
 use Rattle.flow.proofs.rows.in_range.Tie as tie
 
-returns : tie.Need-returns
+abbrev Inv-loop : tie.InvT-loop
+Inv-loop kind head numbers k₀ k-end k = (k ≤ k-end) × (laws.tested (inRange head) (sorts kind) numbers k ≡ all (inRange head) (fields (built kind numbers)))
+
+abbrev μ-loop : tie.MeasureT-loop
+μ-loop kind head numbers k₀ k-end k = k-end - k
+
+loop-holds : tie.Need-loop-holds Inv-loop μ-loop
+loop-holds c = let a = c .before .args in (omega arith, sym (ap (all (inRange (a .head))) (laws.fields-built (a .t2) (a .kind))))
+
+within : (c : tie.In-loop Inv-loop μ-loop) → (c .before .loop .k < 4) × (c .before .loop .k < length (sorts (c .before .before .before .args .kind)))
+within c = let w = c .before .before .width .ensures in (omega (arith, w, laws.width-bound (c .before .before .before .args .kind)), omega (arith, w))
+
+sort-at-requires : tie.Need-sort-at-requires Inv-loop μ-loop
+sort-at-requires c κs = within c .0
+
+array-copy-out : tie.Need-array-copy-out-fits Inv-loop μ-loop
+array-copy-out c = omega (arith, within (c .before) .0)
+
+-- the test of field k
+module _ (c : tie.After-fits2 Inv-loop μ-loop) where
+  abbrev loop-at : tie.At-loop Inv-loop μ-loop
+  loop-at = c .before .before .before .before
+
+  tested : let a = loop-at .before .before .args in
+      c .fits2 .result ≡ laws.holds (inRange (a .head)) (sorts (a .kind)) (a .t2) (loop-at .loop .k)
+  tested =
+      let a = loop-at .before .before .args in
+      let f : SFits w32 (at (a .t2) (loop-at .loop .k)) = search needs in
+      c .fits2 .ensures ∙ ap₂ (λ (s : Sort) (z : ℤ). inRange (a .head) (field s z)) (c .before .before .sort-at .ensures) (toZ-ofZ f)
+
+returns : tie.Need-returns Inv-loop μ-loop
 returns c =
-    let a = c .before .before .before .before .before .before .before .args in
-    let f : SFits w32 (a .x .c) = search needs in
-    c .passed .ensures
-    ∙ in-range-tests (a .head) (a .x) (c .before .before .before .before .before .before .counts .ensures)
-    (c .before .before .before .before .before .counts2 .ensures) (c .before .before .before .before .counts3 .ensures)
-    (c .before .before .before .counts4 .ensures)
-    (c .before .is-constant .ensures ∙ ap (λ (z : ℤ). leZ leastConstant z && leZ z greatestConstant) (toZ-ofZ f))
+    let l = loop-at (c .before) in
+    let a = l .before .before .args in
+    laws.test-fails (inRange (a .head)) (sorts (a .kind)) (a .t2) (l .loop .k) (within (c .before .before .before .before) .1) (sym (tested (c .before)) ∙ not-true _ (c .if1 .taken)) ∙ l .loop .inv .1
+
+loop-again : tie.Need-loop-again Inv-loop μ-loop
+loop-again c =
+    let l = loop-at (c .before) in
+    let a = l .before .before .args in (
+      omega (arith, c .before .before .before .before .loop-test .taken),
+      laws.test-holds (inRange (a .head)) (sorts (a .kind)) (a .t2) (l .loop .k) (within (c .before .before .before .before) .1) (sym (tested (c .before)) ∙ not-false _ (c .if1 .left)) ∙ l .loop .inv .1,
+    )
+
+returns-2 : tie.Need-returns-2 Inv-loop μ-loop
+returns-2 c =
+    let l = c .before in
+    let a = l .before .before .args in
+    laws.tests-end (inRange (a .head)) (sorts (a .kind)) (a .t2) (l .loop .k) (omega (arith, l .before .width .ensures, c .loop-test .left)) ∙ l .loop .inv .1
 
 pub in-range-spec : {M : Type 1} → statement M
 in-range-spec =
     tie.close
     (tie.spec
+    Inv-loop
+    μ-loop
     (λ c κs. search needs)
+    loop-holds
+    sort-at-requires
+    (λ c. omega (arith, within (c .before) .0))
+    array-copy-out
     (λ c κs. search needs)
-    (λ c κs. search needs)
-    (λ c κs. search needs)
-    (λ c κs. search needs)
-    (λ c κs. search needs)
-    returns)
+    returns
+    (λ c. search needs)
+    (λ c. search needs)
+    loop-again
+    returns-2)

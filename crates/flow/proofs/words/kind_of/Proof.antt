@@ -2,27 +2,26 @@
 use mathlib.Core.Path.{refl}
 use borrow.Author.Needs.{needs}
 use denote.Ref.{now}
-use Rattle.text.specs.Bytes.{bytes}
 use Rattle.text.specs.Split.{sameWord}
-use Rattle.flow.specs.Words.{kindOf}
+use Rattle.flow.specs.Words.{table, among}
 use Rattle.flow.specs.declared.Kind.the-variants.{Read, Put, Copy, Set, Less, Over, Under, Nop, Stop}
 use Rattle.flow.proofs.RowLaws.{word-more}
 use Rattle.flow.proofs.words.kind_of.Statement.{statement}
 use Rattle.flow.proofs.words.kind_of.Tie as tie
 
 returns : tie.Need-returns
-unfolding kindOf
+unfolding among sameWord
 returns c =
     let w = now (c .before .before .before .before .before .before .before .before .before .before .before .before .before .before .before .before .before .before .before .args .w) in
-    word-more Read (sameWord w (bytes "read")) (c .found9 .ensures)
-    (word-more Put (sameWord w (bytes "put")) (c .before .before .found8 .ensures)
-    (word-more Copy (sameWord w (bytes "copy")) (c .before .before .before .before .found7 .ensures)
-    (word-more Set (sameWord w (bytes "set")) (c .before .before .before .before .before .before .found6 .ensures)
-    (word-more Less (sameWord w (bytes "less")) (c .before .before .before .before .before .before .before .before .found5 .ensures)
-    (word-more Over (sameWord w (bytes "over")) (c .before .before .before .before .before .before .before .before .before .before .found4 .ensures)
-    (word-more Under (sameWord w (bytes "under")) (c .before .before .before .before .before .before .before .before .before .before .before .before .found3 .ensures)
-    (word-more Nop (sameWord w (bytes "nop")) (c .before .before .before .before .before .before .before .before .before .before .before .before .before .before .found2 .ensures)
-    (word-more Stop (sameWord w (bytes "stop")) (c .before .before .before .before .before .before .before .before .before .before .before .before .before .before .before .before .found .ensures) refl))))))))
+    word-more Read (sameWord w (table Read .word)) (c .found9 .ensures)
+    (word-more Put (sameWord w (table Put .word)) (c .before .before .found8 .ensures)
+    (word-more Copy (sameWord w (table Copy .word)) (c .before .before .before .before .found7 .ensures)
+    (word-more Set (sameWord w (table Set .word)) (c .before .before .before .before .before .before .found6 .ensures)
+    (word-more Less (sameWord w (table Less .word)) (c .before .before .before .before .before .before .before .before .found5 .ensures)
+    (word-more Over (sameWord w (table Over .word)) (c .before .before .before .before .before .before .before .before .before .before .found4 .ensures)
+    (word-more Under (sameWord w (table Under .word)) (c .before .before .before .before .before .before .before .before .before .before .before .before .found3 .ensures)
+    (word-more Nop (sameWord w (table Nop .word)) (c .before .before .before .before .before .before .before .before .before .before .before .before .before .before .found2 .ensures)
+    (word-more Stop (sameWord w (table Stop .word)) (c .before .before .before .before .before .before .before .before .before .before .before .before .before .before .before .before .found .ensures) refl))))))))
 
 pub kind-of-spec : {M : Type 1} → statement M
 kind-of-spec =

@@ -15,7 +15,7 @@ use Rattle.configuration.proofs.Fitting.{fit-legal}
 use Rattle.configuration.proofs.Reaches.{start-fits}
 use Rattle.table.specs.Passes.{blank}
 use Rattle.tape_maker.specs.Inner.{Each}
-use Rattle.tape_maker.proofs.ReportLaws.{rows-prepared}
+use Rattle.tape_maker.proofs.ReportLaws.{rows-prepared, rows-bytes}
 use Rattle.tape_maker.proofs.planning.plan_of.Statement.{statement}
 use Rattle.tape_maker.proofs.planning.plan_of.Tie as tie
 
@@ -25,6 +25,9 @@ lo-is c = let f : SFits w32 (c .before .before .before .before .before .range-of
 
 hi-is : (c : tie.After-width) → toZ w32 (ofZ w32 (c .before .before .before .before .before .range-of .result .hi)) ≡ C2 (flowOf (c .before .before .before .before .before .before .args .flow))
 hi-is c = let f : SFits w32 (c .before .before .before .before .before .range-of .result .hi) = search needs in toZ-ofZ f ∙ c .before .before .before .before .before .range-of .ensures .1
+
+prepare-requires : tie.Need-prepare-requires
+prepare-requires c κs = let a = c .before .before .before .before in (a .pre .1, rows-bytes (a .args .flow) (a .pre .0))
 
 start-requires : tie.Need-start-requires
 start-requires c κs =
@@ -52,7 +55,7 @@ plan-of-spec =
     tie.close
     (tie.spec
     (λ c κs. search needs)
-    (λ c κs. search needs)
+    prepare-requires
     (λ c κs. search needs)
     start-requires
     returns)
