@@ -4,7 +4,7 @@
 # make examples                   builds and runs the makers' programs in C and in Rust
 # make outside SEED=1             library and program against a second implementation, on generated texts, tapes and samples
 # make bench                      the library against plain Rust: the tables of docs/BENCHMARKS.md
-# make bench BEFORE=old.a         the same, and against an older library with seven work rows
+# make bench BEFORE=old.a         the same, and against an older library with the same interface
 
 FLOW ?= flows/a.flow
 SEED ?=
@@ -39,10 +39,11 @@ outside: lib program
 	@$(LINKED) -o target/rust/outside tests/outside/src/main.rs
 	@REPORT=target/bin/report target/rust/outside $(SEED)
 
-# Of an older library one function is kept, under another name, so that both are linked.
+# Of an older library two functions are kept, under other names, so that both are linked.
 bench: lib
 	@mkdir -p target/rust
-	@$(if $(BEFORE),objcopy --redefine-sym tilsando_report=before_report --keep-global-symbol before_report $(BEFORE) target/rust/libbefore.a)
+	@$(if $(BEFORE),objcopy --redefine-sym tilsando_run=before_run --redefine-sym tilsando_report=before_report \
+		--keep-global-symbol before_run --keep-global-symbol before_report $(BEFORE) target/rust/libbefore.a)
 	@$(LINKED) $(if $(BEFORE),--cfg before -L native=target/rust -l static=before) -o target/rust/bench bench/src/main.rs
 	@target/rust/bench
 

@@ -1,4 +1,4 @@
-//! The library against the same algorithms in plain Rust, in one run; prints tables.
+//! The library against the same algorithms in plain Rust, and against an older library if one is linked, in one run; prints tables.
 //!
 //! Both answer the same requests, in turn; the answers are compared. A time is the processor time of one request, the least and the
 //! median of all rounds. Before each report and each sample the cells hold what a request of another flow left.
@@ -13,7 +13,8 @@ mod plain;
 
 use library::Told;
 use measure::{after, each, in_turn, worst, Compared};
-use plain::Cell;
+use plain::running::Ran;
+use plain::{Cell, Refusal};
 use std::hint::black_box;
 
 const CELLS: usize = 65_536;
@@ -46,6 +47,66 @@ impl Subject<'_> {
     }
 }
 
+/// A way to run.
+type Way<A> = fn(&[u8], u64, &[i32], &[usize], &mut [u8], &mut [i32]) -> A;
+
+/// The rows of outputs: numbers and values.
+type Outputs = (Vec<u8>, Vec<i32>);
+
+/// A run that uses its limit, asked for so many times in a round.
+struct Run {
+    what: String,
+    text: Vec<u8>,
+    limit: u64,
+    records: Vec<i32>,
+    lengths: Vec<usize>,
+    calls: u64,
+}
+
+impl Run {
+    /// The reading of a text: a run of 0 steps on so many empty tapes.
+    fn reading(what: &str, text: Vec<u8>, tapes: usize) -> Run {
+        let what = format!("reading, {what}, {} bytes", text.len());
+        let calls = 300_000 / text.len() as u64;
+        Run { what, text, limit: 0, records: Vec::new(), lengths: vec![0; tapes], calls }
+    }
+
+    /// A run of 1,000,000 steps.
+    fn long(what: &str, text: Vec<u8>, tapes: &[&[i32]]) -> Run {
+        let what = format!("run, {what}, 1,000,000 steps");
+        Run { what, text, limit: 1_000_000, records: tapes.concat(), lengths: tapes.iter().map(|t| t.len()).collect(), calls: 1 }
+    }
+
+    fn outputs(&self) -> Outputs {
+        (vec![0; self.records.len()], vec![0; self.records.len()])
+    }
+
+    fn ask<A>(&self, way: Way<A>, (numbers, values): &mut Outputs) -> A {
+        way(black_box(&self.text), self.limit, &self.records, &self.lengths, numbers, values)
+    }
+
+    fn time<A>(&self, way: Way<A>, outputs: &mut Outputs) -> f64 {
+        each(self.calls, || self.ask(way, outputs))
+    }
+
+    /// The run by the library and by another, whose answers `told` makes comparable.
+    fn against<A>(&self, other: Way<A>, told: fn(A) -> Told) -> Compared {
+        let (mut outputs, mut again) = (self.outputs(), self.outputs());
+        let (one, same) = (self.ask(library::run, &mut outputs), told(self.ask(other, &mut again)));
+        assert_eq!((&one, &outputs), (&same, &again), "{}: both answer the same", self.what);
+        assert_eq!(one.answer[1], self.limit, "{}: the run uses its limit", self.what);
+        line(&self.what, in_turn(&mut outputs, |lent| self.time(library::run, lent), |lent| self.time(other, lent)))
+    }
+}
+
+/// What the library tells when plain Rust answers so.
+fn told(answer: Result<Ran, Refusal>) -> Told {
+    match answer {
+        Ok(ran) => Told { answer: [ran.end as u64, ran.steps, ran.puts as u64, 0, 0], p: ran.p, m: ran.m, ..Told::NOTHING },
+        Err((number, place)) => Told { returned: place as u32 * 256 + number, ..Told::NOTHING },
+    }
+}
+
 /// Reports by the library, in n cells or as many as it takes.
 fn ours(n: usize) -> impl Fn(&mut [Cell], &Flow) -> Told {
     move |cells, flow| library::report(black_box(&flow.text), &mut cells[..n.max(flow.k)])
@@ -69,32 +130,6 @@ fn line(what: &str, compared: Compared) -> Compared {
     print!("| {what} | {} | {} | {:.2} ", shown(one.least), shown(other.least), ratio.least);
     println!("| {} | {} | {:.2} |", shown(one.median), shown(other.median), ratio.median);
     compared
-}
-
-/// The reading of a text: a run of 0 steps on three empty tapes.
-fn reading(what: &str, text: &[u8]) {
-    let ours = || library::run(black_box(text), 0, &[], &[0; 3], &mut [], &mut []);
-    let plain = || plain::running::run(black_box(text), 0, &[], &[0; 3], &mut [], &mut []);
-    let (returned, end) = plain().map_or_else(|(number, place)| (place as u32 * 256 + number, 0), |ran| (0, ran.end as u64));
-    assert_eq!(ours(), Told { returned, answer: [end, 0, 0, 0, 0], ..Told::NOTHING }, "{what}: both answer the same");
-    line(&format!("reading, {what}, {} bytes", text.len()), in_turn(&mut (), |_| each(200, ours), |_| each(200, plain)));
-}
-
-/// A run that uses its limit.
-fn run(what: &str, text: &[u8], limit: u64, tapes: &[&[i32]]) -> Compared {
-    let records = tapes.concat();
-    let lengths: Vec<usize> = tapes.iter().map(|t| t.len()).collect();
-    let ours = |(numbers, values): &mut (Vec<u8>, Vec<i32>)| library::run(black_box(text), limit, &records, &lengths, numbers, values);
-    let plain = |(numbers, values): &mut (Vec<u8>, Vec<i32>)| {
-        plain::running::run(black_box(text), limit, &records, &lengths, numbers, values).expect("the run is made")
-    };
-    let mut outputs = (vec![0; records.len()], vec![0; records.len()]);
-    let mut again = outputs.clone();
-    let (told, ran) = (ours(&mut outputs), plain(&mut again));
-    let answer = [ran.end as u64, ran.steps, ran.puts as u64, 0, 0];
-    assert_eq!((told, &outputs), (Told { answer, p: ran.p, m: ran.m, ..Told::NOTHING }, &again), "{what}: both answer the same");
-    assert_eq!(ran.steps, limit, "{what}: the run uses its limit");
-    line(what, in_turn(&mut outputs, |lent| each(1, || ours(lent)), |lent| each(1, || plain(lent))))
 }
 
 /// A report in as many cells as the flow has configurations.
@@ -148,11 +183,11 @@ fn room(cells: &mut [Cell], s: &Subject, full: &Flow) -> Compared {
 
 /// A report by this library and by an older one, in as many cells as the flow has configurations.
 #[cfg(before)]
-fn landing(cells: &mut [Cell], rows: &mut before::Rows, s: &Subject) -> Compared {
+fn landing(cells: &mut [Cell], s: &Subject) -> Compared {
     let k = s.flow.k;
-    let older = |rows: &mut before::Rows, flow: &Flow| before::report(black_box(&flow.text), rows, k.max(flow.k));
-    assert_eq!(ours(k)(cells, s.flow), older(rows, s.flow), "{}: both answer the same", s.family);
-    let compared = in_turn(&mut (cells, rows), |(cells, _)| s.time(*cells, ours(k)), |(_, rows)| s.time(*rows, older));
+    let older = |cells: &mut [Cell], flow: &Flow| before::report(black_box(&flow.text), &mut cells[..k.max(flow.k)]);
+    assert_eq!(ours(k)(cells, s.flow), older(cells, s.flow), "{}: both answer the same", s.family);
+    let compared = in_turn(cells, |cells| s.time(cells, ours(k)), |cells| s.time(cells, older));
     line(&format!("report, {}, {k} configurations", s.family), compared)
 }
 
@@ -167,15 +202,16 @@ fn main() {
     let other = |i: usize| &families[(i / 5 + 1) % 3].1[i % 5];
     let flows = families.iter().flat_map(|(family, flows)| flows.iter().map(move |flow| (*family, flow)));
     let all: Vec<Subject> = flows.enumerate().map(|(i, (family, flow))| Subject { family, flow, other: other(i) }).collect();
-    head("Request", "Library", "Plain Rust");
-    reading("64 instructions", &flows::longest());
-    reading("a number of 2,600 digits", &flows::fullest());
+    let longest = Run::reading("64 instructions", flows::longest(), 3);
+    let fullest = Run::reading("a number of 2,600 digits", flows::fullest(), 3);
+    let short = Run::reading("flow A", flows::short(), 1);
     let tape: Vec<i32> = (0..200_000).map(|i| i * 5).collect();
     let other: Vec<i32> = (0..200_000).map(|i| i * 7 - 1000).collect();
-    let runs = [
-        run("run, merge of two tapes, 1,000,000 steps", &flows::merge(), 1_000_000, &[&tape, &other]),
-        run("run, comparisons and copies, 1,000,000 steps", &flows::endless(), 1_000_000, &[&[]]),
-    ];
+    let merge = Run::long("merge of two tapes", flows::merge(), &[&tape, &other]);
+    let endless = Run::long("comparisons and copies", flows::endless(), &[&[]]);
+    head("Request", "Library", "Plain Rust");
+    let readings = [&longest, &fullest, &short].map(|run| run.against(plain::running::run, told));
+    let runs = [&merge, &endless].map(|run| run.against(plain::running::run, told));
     let reports: Vec<Compared> = all.iter().map(|s| report(cells, s)).collect();
     sample(cells, "between earlier records", &flows::squeeze(15), 62, all[10].flow);
     let long = sample(cells, "long", &flows::counter(&[8, 8, 7, 7], 0, 0, 5, false), 62, all[4].flow);
@@ -187,12 +223,13 @@ fn main() {
     head("Library, K configurations", "65,536 cells", "K cells");
     let rooms: Vec<Compared> = all.chunks(5).map(|sizes| room(cells, &sizes[0], sizes[4].other)).collect();
     #[cfg(before)]
-    let landings: Vec<Compared> = {
-        head("Full table", "Library", "Library before");
-        let rows = &mut before::Rows::new(CELLS);
-        all.iter().map(|s| landing(cells, rows, s)).collect()
+    let (landed, landings) = {
+        head("Request", "Library", "Library before");
+        let landed = [&longest, &short, &merge, &endless].map(|run| run.against(before::run, |told| told));
+        (landed, all.iter().map(|s| landing(cells, s)).collect::<Vec<Compared>>())
     };
     println!("\n| Wanted | In this run |\n|---|---|");
+    wanted("the longest flow read within 2 times plain Rust", &readings[..1]);
     wanted("a run of 1,000,000 steps within 1.5 times plain Rust", &runs);
     wanted("a report over 65,536 cells within 1.5 times plain Rust", &[reports[4], reports[9], reports[14]]);
     wanted("twice the configurations in at most 2.3 times the time", &grown);
@@ -200,5 +237,9 @@ fn main() {
     println!("| a sample of distance 20,000 with 2,000 records in under 100 ms | {least}, the median {median} |");
     wanted("1,000 configurations in 65,536 cells within 1.4 times 1,000 cells", &rooms);
     #[cfg(before)]
-    wanted("a report with a full table within 1.1 times the library before", &landings);
+    {
+        wanted("reading within 1.05 times the library before", &landed[..2]);
+        wanted("a run's step within 1.05 times the library before", &landed[2..]);
+        wanted("a report with a full table within 1.1 times the library before", &landings);
+    }
 }
