@@ -11,10 +11,12 @@ use lib.Seq.{drop-cons}
 use borrow.Author.Tests.{leb-true}
 use lib.Dec.{leb}
 use Rattle.model.specs.Language.{Instruction, Field, fields, constants}
-use Rattle.flow.specs.Words.{sorts, mayMinus, count, at, built, field}
+use Rattle.flow.specs.Words.{sorts, mayMinus, count, at, built}
+use Rattle.flow.specs.Inner.{field}
 use Rattle.flow.specs.Code.{kind, numbers, numbersIn, instructionOf}
 use Rattle.flow.specs.Read.{all, inRange, isNamed}
-use Rattle.flow.specs.Inner.{placed, HeadFits}
+use Rattle.flow.specs.Inner.{HeadFits}
+use Rattle.flow.proofs.RowLaws.{placed}
 use Rattle.flow.specs.declared.Head.{Head}
 use Rattle.flow.proofs.Tests.{and-split}
 use Rattle.flow.specs.declared.Instruction.{Instruction as Row}
@@ -23,7 +25,7 @@ use Rattle.flow.specs.declared.Sort.{Sort}
 use Rattle.flow.specs.declared.Sort.the-variants.{Tape, Output, Variable, Target, Constant}
 use Rattle.flow.proofs.SortLaws.{sort-field, number-field, constants-field}
 use Rattle.flow.proofs.RowLaws.{tried, fields-built, parts-built}
-use Rattle.configuration.specs.Inner.{isCount, Bytes, constantIn, formed}
+use Rattle.configuration.specs.Inner.{isCount, FitBytes, constantIn, formed}
 use Rattle.configuration.specs.Op.{offset, opOf}
 use Rattle.configuration.specs.declared.Op.{Op}
 
@@ -43,14 +45,14 @@ formed-op lo ns =
     tried (λ k. formed k (count (at ns 0)) (count (at ns 1)) (count (at ns 2)) (count (at ns 3)) (offset (at ns 0) lo) (offset (at ns 1) lo))
     (λ k. opOf lo (built k ns)) refl
 
-only-byte : (x : Row) → Bytes x → (j : ℕ) → only (x .kind) (λ i. min (count (at (numbersIn x) i)) 255) j ≡ only (x .kind) (λ i. count (at (numbersIn x) i)) j
+only-byte : (x : Row) → FitBytes x → (j : ℕ) → only (x .kind) (λ i. min (count (at (numbersIn x) i)) 255) j ≡ only (x .kind) (λ i. count (at (numbersIn x) i)) j
 only-byte x h j = by (isCount (sorts (x .kind)) j) (h j)
   where
     by : (b : Bool) → (b ≡ true → count (at (numbersIn x) j) ≤ 255) → cond b (min (count (at (numbersIn x) j)) 255) 0 ≡ cond b (count (at (numbersIn x) j)) 0
     by true f = omega (arith, f refl)
     by false f = refl
 
-module _ (lo : ℤ) (x : Row) (bytes : Bytes x) where
+module _ (lo : ℤ) (x : Row) (bytes : FitBytes x) where
   abbrev m : ℕ → ℕ
   m i = min (count (at (numbersIn x) i)) 255
 
@@ -142,7 +144,7 @@ module _ (h : Head) (f : HeadFits h) (n : ℕ) (few : n ≤ 64) where
       let next : i + suc j ≡ suc i + j = omega arith in
       rw next (bytes-from ss ns (suc i) r₁ s₁ j e)
 
-  pub legal-bytes : (x : Row) → all (inRange h) (fields (instructionOf x)) ≡ true → all (isNamed n) (fields (instructionOf x)) ≡ true → Bytes x
+  pub legal-bytes : (x : Row) → all (inRange h) (fields (instructionOf x)) ≡ true → all (isNamed n) (fields (instructionOf x)) ≡ true → FitBytes x
   legal-bytes x r s j e =
       let is = fields-built (numbersIn x) (x .kind) in
       let from : 0 + j ≡ j = omega arith in

@@ -27,8 +27,8 @@ constantIn x = getD (constants (fields x)) 0 (pos 0)
 abbrev pub isCount : List Sort → ℕ → Bool
 isCount ss j = getD (map (λ s. not (mayMinus s)) ss) j false
 
-abbrev pub Bytes : Row → Type 0
-Bytes x = (j : ℕ) → isCount (sorts (x .kind)) j ≡ true → count (at (numbersIn x) j) ≤ 255
+abbrev pub FitBytes : Row → Type 0
+FitBytes x = (j : ℕ) → isCount (sorts (x .kind)) j ≡ true → count (at (numbersIn x) j) ≤ 255
 
 -- the prepared form of a kind, from the numbers of the line as counts, and the first two as constants that are prepared already
 abbrev pub formed : Kind → (a b c d u v : ℕ) → Op

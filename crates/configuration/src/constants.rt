@@ -6,7 +6,7 @@ ghost use Prim.Native.Nat.{_-_, _≤_, min};
 ghost use Rattle.model.specs.Language.{C1, C2};
 ghost use Rattle.flow.specs.Words.{count};
 ghost use Rattle.flow.specs.Code.{instructionOf, flowOf};
-ghost use Rattle.configuration.specs.Inner.{Bytes, constantIn, formed};
+ghost use Rattle.configuration.specs.Inner.{FitBytes, constantIn, formed};
 ghost use Rattle.configuration.specs.Op.{offset, widthOf, opOf};
 use crate::Op;
 use crate::Range;
@@ -93,7 +93,7 @@ fn form(kind: Kind, a: u8, b: u8, c: u8, d: u8, u: u32, v: u32) -> Op
 
 // An instruction prepared for a search; lo is C1.
 pub fn prepare(x: Instruction, lo: i32) -> Op
-    requires { ⌜ Bytes x ⌝ }
+    requires { ⌜ FitBytes x ⌝ }
     ensures { λ r. ⌜ r ≡ opOf lo (instructionOf x) ⌝ }
 {
     let a = byte(x.first);

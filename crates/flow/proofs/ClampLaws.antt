@@ -14,10 +14,12 @@ use lib.Signed.{leZ}
 use lib.ListN.{List·getD-map}
 use Rattle.model.specs.Language.{Instruction, Field, fields}
 use Rattle.text.proofs.Cap.{test-cut}
-use Rattle.flow.specs.Words.{sorts, mayMinus, count, at, built, field, sort, number}
+use Rattle.flow.specs.Words.{sorts, mayMinus, count, at, built, sort, number}
+use Rattle.flow.specs.Inner.{field}
 use Rattle.flow.specs.Read.{all, bounds, targets, between, inRange, isNamed}
 use Rattle.flow.specs.Code.{kind, numbers, row, rowOf, instructionOf}
-use Rattle.flow.specs.Inner.{small, bounded, clamped, placed, HeadFits}
+use Rattle.flow.specs.Inner.{small, bounded, clamped, HeadFits}
+use Rattle.flow.proofs.RowLaws.{placed}
 use Rattle.flow.specs.declared.Kind.{Kind}
 use Rattle.flow.specs.declared.Sort.{Sort}
 use Rattle.flow.specs.declared.Head.{Head}
@@ -42,15 +44,15 @@ small-range hi l n = test-cut (λ m. leb 1 m && leb m hi) false 255 n (λ m k. p
 abbrev pub FourDigits : ℤ → Type 0
 FourDigits z = T (leZ (negsuc 9998) z) × T (leZ z (pos 9999))
 
-abbrev Tame : Option (ℤ × ℤ) → Type 0
-Tame none = Unit {0}
-Tame (some (lo, hi)) = T (leZ (negsuc 9998) lo) × T (leZ hi (pos 9999))
+abbrev FourDigitRange : Option (ℤ × ℤ) → Type 0
+FourDigitRange none = Unit {0}
+FourDigitRange (some (lo, hi)) = T (leZ (negsuc 9998) lo) × T (leZ hi (pos 9999))
 
 false-of : (b : Bool) → (T b → ⊥) → b ≡ false
 false-of true f = absurd (f tt)
 false-of false f = refl
 
-between-kept : (r : Option (ℤ × ℤ)) → Tame r → (z : ℤ) → between r (bounded z) ≡ between r z
+between-kept : (r : Option (ℤ × ℤ)) → FourDigitRange r → (z : ℤ) → between r (bounded z) ≡ between r z
 unfolding bounded
 between-kept none t z = refl
 between-kept (some (lo, hi)) (low, high) (pos n) = go (ltb 100000 n) refl
@@ -72,7 +74,7 @@ between-kept (some (lo, hi)) (low, high) (negsuc n) = go (ltb 99999 n) refl
         rw (past, past-too)
     go false h = refl
 
-four-digits : (lo hi : ℤ) → Tame (some (lo, hi)) → (z : ℤ) → between (some (lo, hi)) z ≡ true → FourDigits z
+four-digits : (lo hi : ℤ) → FourDigitRange (some (lo, hi)) → (z : ℤ) → between (some (lo, hi)) z ≡ true → FourDigits z
 four-digits lo hi (low, high) z e =
     let (a, b) = and-split (leZ lo z) (leZ z hi) e in
     let least = true-in (leZ lo z) a in
@@ -107,16 +109,16 @@ number-bounded s z = number-field (bounded z) s ∙ by (mayMinus s) ∙ ap bound
     by false = count-bounded z
 
 -- one law for every table of ranges
-range-kept : (range : Sort → Option (ℤ × ℤ)) → ((s : Sort) → Tame (range s)) → (s : Sort) (z : ℤ)
+range-kept : (range : Sort → Option (ℤ × ℤ)) → ((s : Sort) → FourDigitRange (range s)) → (s : Sort) (z : ℤ)
     → between (range (sort (field s (bounded z)))) (number (field s (bounded z))) ≡ between (range (sort (field s z))) (number (field s z))
-range-kept range tame s z =
-    rw (sort-field (bounded z) s, sort-field z s, number-bounded s z) (between-kept (range s) (tame s) (number (field s z)))
+range-kept range few s z =
+    rw (sort-field (bounded z) s, sort-field z s, number-bounded s z) (between-kept (range s) (few s) (number (field s z)))
 
 -- ---- the two tables: a row keeps all their ranges, and every sort has a range in one of them
 module _ (h : Head) (f : HeadFits h) (n : ℕ) (l : n < 255) where
-  tame : (s : Sort) → Tame (bounds h s) × Tame (targets n s)
-  tame =
-      every-sort (λ s. Tame (bounds h s) × Tame (targets n s)) (
+  few-digits : (s : Sort) → FourDigitRange (bounds h s) × FourDigitRange (targets n s)
+  few-digits =
+      every-sort (λ s. FourDigitRange (bounds h s) × FourDigitRange (targets n s)) (
         (tt, (tt, omega (zarith, l))),
         (
           ((tt, omega (zarith, f .tapes)), tt),
@@ -131,13 +133,13 @@ module _ (h : Head) (f : HeadFits h) (n : ℕ) (l : n < 255) where
       )
 
   in-range-kept : (s : Sort) (z : ℤ) → inRange h (field s (bounded z)) ≡ inRange h (field s z)
-  in-range-kept = range-kept (bounds h) (λ s. tame s .0)
+  in-range-kept = range-kept (bounds h) (λ s. few-digits s .0)
 
   is-named-kept : (s : Sort) (z : ℤ) → isNamed n (field s (bounded z)) ≡ isNamed n (field s z)
-  is-named-kept = range-kept (targets n) (λ s. tame s .1)
+  is-named-kept = range-kept (targets n) (λ s. few-digits s .1)
 
   pub field-digits : (x : Field) → inRange h x ≡ true → isNamed n x ≡ true → FourDigits (number x)
-  field-digits x = by (bounds h (sort x)) (targets n (sort x)) (tame (sort x)) (ranged (sort x))
+  field-digits x = by (bounds h (sort x)) (targets n (sort x)) (few-digits (sort x)) (ranged (sort x))
     where
       has : Option (ℤ × ℤ) → Bool
       has none = false
@@ -146,7 +148,7 @@ module _ (h : Head) (f : HeadFits h) (n : ℕ) (l : n < 255) where
       ranged : (s : Sort) → (has (bounds h s) || has (targets n s)) ≡ true
       ranged = tried-sort (λ s. has (bounds h s) || has (targets n s)) (λ s. true) refl
 
-      by : (r s : Option (ℤ × ℤ)) → Tame r × Tame s → (has r || has s) ≡ true → between r (number x) ≡ true → between s (number x) ≡ true → FourDigits (number x)
+      by : (r s : Option (ℤ × ℤ)) → FourDigitRange r × FourDigitRange s → (has r || has s) ≡ true → between r (number x) ≡ true → between s (number x) ≡ true → FourDigits (number x)
       by (some (lo, hi)) s t e p q = four-digits lo hi (t .0) (number x) p
       by none (some (lo, hi)) t e p q = four-digits lo hi (t .1) (number x) q
       by none none t e p q = absurd (false≢true e)

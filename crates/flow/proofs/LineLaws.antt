@@ -332,15 +332,9 @@ module _ (s : List ℕ) (at : ℕ) (h : Head) (xs : List Row) (count : ℕ) {X :
         let t : take (count + 1) (set xs count row) ≡ take count xs ++ (row ∷ []) = rw add-one (take-suc-set xs count row n) in
         rw (t, add-one (count + 1)) (rw q at next-line)
 
--- the rows past the count stay rows of `stop` as the count grows
-pub stops-less : (x y : Row) (xs : List Row) (count : ℕ) → count < 64 → drop count xs ≡ replicate (64 - count) x
-    → drop (count + 1) (set xs count y) ≡ replicate (64 - (count + 1)) x
-stops-less x y xs count l e =
-    let m : 64 - count ≡ suc (64 - (count + 1)) = omega arith in
-    drop-set-lt (count + 1) xs count y (omega arith) ∙ sym (drop-drop 1 count xs) ∙ ap (drop 1) (e ∙ ap (λ (n : ℕ). replicate n x) m)
-
--- the numbers past those read stay 0
-pub zeros-less : (z : ℤ) (ns : List ℤ) (k : ℕ) → k < 4 → drop k ns ≡ replicate (4 - k) (pos 0) → drop (k + 1) (set ns k z) ≡ replicate (4 - (k + 1)) (pos 0)
-zeros-less z ns k l e =
-    let m : 4 - k ≡ suc (4 - (k + 1)) = omega arith in
-    drop-set-lt (k + 1) ns k z (omega arith) ∙ sym (drop-drop 1 k ns) ∙ ap (drop 1) (e ∙ ap (λ (n : ℕ). replicate n (pos 0)) m)
+-- what fills n places from k on fills them from k + 1 on, once another element is stored at k: rows of `stop`, and numbers that are 0
+pub filler-less : {A : Type 0} (n : ℕ) (x y : A) (xs : List A) (k : ℕ) → k < n → drop k xs ≡ replicate (n - k) x
+    → drop (k + 1) (set xs k y) ≡ replicate (n - (k + 1)) x
+filler-less n x y xs k l e =
+    let m : n - k ≡ suc (n - (k + 1)) = omega arith in
+    drop-set-lt (k + 1) xs k y (omega arith) ∙ sym (drop-drop 1 k xs) ∙ ap (drop 1) (e ∙ ap (λ (j : ℕ). replicate j x) m)

@@ -14,14 +14,20 @@ use lib.Seq.{drop-cons}
 use Rattle.model.specs.Language.{Instruction, read, put, copy, const, less, over, under, nop, stop, Field, fields}
 use Rattle.model.proofs.Lists.{All}
 use Rattle.text.specs.Split.{sameWord}
-use Rattle.flow.specs.Words.{table, kinds, among, kindOf, sorts, at, built, field}
+use Rattle.flow.specs.Words.{table, kinds, among, kindOf, sorts, at, built}
+use Rattle.flow.specs.Inner.{field}
 use Rattle.flow.specs.Read.{all}
 use Rattle.flow.specs.Code.{kind, numbers, row, numbersIn, rowOf, instructionOf}
-use Rattle.flow.specs.Inner.{four, placed}
+use Rattle.flow.specs.Inner.{four}
 use Rattle.flow.specs.declared.Kind.{Kind}
 use Rattle.flow.specs.declared.Kind.the-variants.{Read, Put, Copy, Set, Less, Over, Under, Nop, Stop}
 use Rattle.flow.specs.declared.Sort.{Sort}
 use Rattle.flow.specs.declared.Sort.the-variants.{Target}
+
+-- the fields of some sorts that hold the numbers from place j on
+abbrev pub placed : List Sort → List ℤ → ℕ → List Field
+placed [] zs j = []
+placed (s ∷ ss) zs j = field s (at zs j) ∷ placed ss zs (suc j)
 
 -- ---- every kind stands in the table
 every : (P : Kind → Type 0) → All P kinds → (k : Kind) → P k

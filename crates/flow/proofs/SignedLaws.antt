@@ -10,7 +10,8 @@ use lib.Signed.{ltZ, nonNeg}
 use mir.Syntax.{w32, w64}
 use mir.Val.{SFits, toZ, ofZ}
 use mir.Facts.{toZ-ofZ}
-use Rattle.flow.specs.Words.{mayMinus, count, field, number}
+use Rattle.flow.specs.Words.{mayMinus, count, number}
+use Rattle.flow.specs.Inner.{field}
 use Rattle.flow.specs.declared.Sort.{Sort}
 use Rattle.flow.proofs.SortLaws.{number-field}
 

@@ -7,7 +7,8 @@ use lib.IntN.{ℤ, pos}
 use Rattle.model.specs.Language.{Field, tape, output, variable, target, constant, constants}
 use Rattle.model.proofs.Lists.{All}
 use Rattle.flow.specs.Limits.{leastConstant, greatestConstant}
-use Rattle.flow.specs.Words.{mayMinus, count, field, sort, number}
+use Rattle.flow.specs.Words.{mayMinus, count, sort, number}
+use Rattle.flow.specs.Inner.{field}
 use Rattle.flow.specs.Read.{bounds, between}
 use Rattle.flow.specs.declared.Head.{Head}
 use Rattle.flow.specs.declared.Sort.{Sort}

@@ -1,5 +1,5 @@
--- Definitions that only inner contracts cite. A row keeps each number in 32 bits; a number too large for that is given as one
--- that is past every range too, so that it changes no answer (proofs/ClampLaws.antt). The number of a line is kept in a byte.
+-- Definitions that only inner contracts cite. The number of a line and the counts of line 1 are kept in a byte, the numbers of a row up to
+-- 100,000: a larger one is given as one that is past every range too, so that it changes no answer (proofs/ClampLaws.antt).
 use mathlib.Core.Bool.{cond}
 use mathlib.Core.List.{List, [], _∷_, _++_, map}
 use mathlib.Core.Option.{Option, none, some}
@@ -8,13 +8,13 @@ use lib.IntN.{ℤ, pos, negsuc}
 use lib.Signed.{ltZ}
 use lib.Dec.{eqb}
 use lib.ListN.{length, take, replicate}
-use Rattle.model.specs.Language.{Instruction, Field}
+use Rattle.model.specs.Language.{Instruction, Field, tape, output, variable, target, constant}
 use Rattle.flow.specs.Limits.{maxTapes, maxOutputs, maxVariables}
 use Rattle.flow.specs.Read.{Checked, ok, fault, lostTarget}
 use Rattle.flow.specs.declared.Kind.{Kind}
 use Rattle.flow.specs.declared.Sort.{Sort}
-use Rattle.flow.specs.declared.Sort.the-variants.{Target}
-use Rattle.flow.specs.Words.{at, field}
+use Rattle.flow.specs.declared.Sort.the-variants.{Target, Tape, Output, Variable, Constant}
+use Rattle.flow.specs.Words.{count}
 use Rattle.flow.specs.Code.{kind, numbers, row, instructionOf, readingOf}
 use Rattle.flow.specs.declared.Head.{Head}
 use Rattle.flow.specs.declared.Instruction.{Instruction as Row}
@@ -52,14 +52,17 @@ abbrev pub rangeIn : Range → Option (ℤ × ℤ)
 rangeIn Any = none
 rangeIn (Within lo hi) = some (lo, hi)
 
+-- the field of a sort that holds a number
+abbrev pub field : Sort → ℤ → Field
+field Tape z = tape (count z)
+field Output z = output (count z)
+field Variable z = variable (count z)
+field Target z = target (count z)
+field Constant z = constant z
+
 -- the sorts of the fields as the code holds them, four; those past the kind's own fields do not count
 abbrev pub four : List Sort → List Sort
 four ss = ss ++ replicate (4 - length ss) Target
-
--- the fields of some sorts that hold the numbers from place j on
-abbrev pub placed : List Sort → List ℤ → ℕ → List Field
-placed [] zs j = []
-placed (s ∷ ss) zs j = field s (at zs j) ∷ placed ss zs (suc j)
 
 -- the code's answers, as the definitions have them
 abbrev pub headIn : Headed → Checked Head

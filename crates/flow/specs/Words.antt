@@ -1,5 +1,6 @@
 -- The table of instructions (document 01): the word of a line, what each field after the word names, and the instruction that they make.
--- All that depends on the kind of an instruction in a text is read off this table.
+-- The kind of a word, the count of fields and the minus signs are read off it; ranges and targets go by the model's `fields`, which name what
+-- the table names (`fields-built`, proofs/RowLaws.antt).
 use mathlib.Core.Bool.{Bool, true, false, cond}
 use mathlib.Core.List.{List, [], _∷_}
 use mathlib.Core.Option.{Option, none, some}
@@ -59,7 +60,7 @@ mayMinus Variable = false
 mayMinus Target = false
 mayMinus Constant = true
 
--- a number that counts, and the number in place j
+-- a number that counts (only a constant is read with a minus), and the number in place j
 abbrev pub count : ℤ → ℕ
 count (pos n) = n
 count (negsuc n) = 0
@@ -74,14 +75,6 @@ built k zs = table k .make (λ j. count (at zs j)) (at zs)
 -- whether the instructions of a kind have two exits
 abbrev pub branches : Kind → Bool
 branches k = hasExits (built k [])
-
--- the field of a sort that holds a number
-abbrev pub field : Sort → ℤ → Field
-field Tape z = tape (count z)
-field Output z = output (count z)
-field Variable z = variable (count z)
-field Target z = target (count z)
-field Constant z = constant z
 
 -- the sort of a field, and the number in it
 abbrev pub sort : Field → Sort

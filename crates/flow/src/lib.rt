@@ -3,7 +3,7 @@
 // The limits stand in `Flow`, and nowhere else in the code. `read` is the reader: what it answers is what `readFlow` of
 // specs/Read.antt says of the text.
 pub mod words; // words.rt: the word of a line, and the fields that it asks for
-mod rows; // rows.rt: an instruction from the numbers of its line, and its ranges
+mod rows; // rows.rt: the numbers of a line as a row keeps them, and their ranges
 mod line; // line.rt: one instruction line
 mod lines; // lines.rt: line 1, the instruction lines, the targets
 pub mod lent; // lent.rt: an instruction fetched from a lent slice, and stored there
@@ -33,7 +33,7 @@ pub enum Kind {
     Stop,
 }
 
-// What a field after the word names.
+// What a field after the word names; `Target`, the first, stands past the last field too.
 pub enum Sort {
     Target,
     Tape,

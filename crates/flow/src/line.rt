@@ -84,9 +84,9 @@ pub fn number_at(line: &[u8], cut: Fields, kind: Kind, k: usize) -> Number
     text::read_number(text::field(line, ends, cut.count, k + 2), minus)
 }
 
-// Whether the checks once all numbers are read turn a line back.
+// What a line is read as.
 pub enum Ended {
-    Fine,
+    Kept(Instruction),
     Fault(Refusal),
 }
 
@@ -99,7 +99,7 @@ pub fn end(
     head: Head,
 ) -> Ended
     requires { ⌜ count ≤ 64 ⌝ }
-    ensures { λ r. ⌜ endedIn (row kind numbers) r ≡ endLine head count number (row kind numbers) ⌝ }
+    ensures { λ r. ⌜ endedIn r ≡ endLine head count number (row kind numbers) ⌝ }
 {
     if number as usize != count + 1 {
         return Ended::Fault(Refusal::OutOfTurn(count + 2));
@@ -107,5 +107,5 @@ pub fn end(
     if !rows::in_range(kind, numbers, head) {
         return Ended::Fault(Refusal::OutOfRange(count + 2));
     }
-    Ended::Fine
+    Ended::Kept(Instruction::new(kind, numbers))
 }

@@ -14,6 +14,7 @@ use crate::Head;
 use crate::Headed;
 use crate::Instruction;
 use crate::Refusal;
+use crate::lent;
 use crate::line;
 use crate::line::Begun;
 use crate::line::Ended;
@@ -81,12 +82,12 @@ pub fn read_lines(text: &[u8], from: usize, head: Head) -> Lines
             };
             numbers[k] = rows::in_bounds(x);
         }
-        match line::end(start.number, kind, numbers, count, head) {
-            Ended::Fine => (),
+        let kept = match line::end(start.number, kind, numbers, count, head) {
+            Ended::Kept(kept) => kept,
             Ended::Fault(r) => break 'lines Answer::Refused(r),
-        }
-        ;
-        rows[count] = Instruction::new(kind, numbers);
+        };
+        let stored = lent::with_row(rows, count, kept);
+        rows = stored;
         count += 1;
         at = end + 1;
     };

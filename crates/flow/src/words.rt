@@ -60,7 +60,7 @@ pub fn width(kind: Kind) -> usize
 }
 
 // What they name; those past the width do not count.
-fn named(kind: Kind) -> [Sort; Instruction::MAX_NUMBERS]
+fn sorts_of(kind: Kind) -> [Sort; Instruction::MAX_NUMBERS]
     ensures { λ r. ⌜ r ≡ four (sorts kind) ⌝ }
 {
     match kind {
@@ -81,8 +81,8 @@ pub fn sort_at(kind: Kind, k: usize) -> Sort
     requires { ⌜ k < 4 ⌝ }
     ensures { λ r. ⌜ r ≡ getD (sorts kind) k Target ⌝ }
 {
-    let all = named(kind);
-    let sort = all[k];
+    let sorts = sorts_of(kind);
+    let sort = sorts[k];
     sort
 }
 

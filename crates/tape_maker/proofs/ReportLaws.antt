@@ -38,7 +38,7 @@ use Rattle.search.specs.Search.{Subject, Finished, SearchedIs}
 use Rattle.search.specs.declared.Searched as Ends
 use Rattle.search.specs.declared.Searched.the-variants.{Done, Full}
 use Rattle.tape_maker.specs.Report.{Outnumber, Count, Reported, refusal, FlowReport, ReportOf, ReportIs}
-use Rattle.tape_maker.specs.Inner.{AllBytes, Each, GivenIs, Planned, reportRefused}
+use Rattle.tape_maker.specs.Inner.{AllFitBytes, Each, GivenIs, Planned, reportRefused}
 use Rattle.tape_maker.specs.declared.ReportEnd.{ReportEnd}
 use Rattle.tape_maker.specs.declared.ReportAnswer.{ReportAnswer}
 use Rattle.tape_maker.specs.declared.planning.Plan.{Plan}
@@ -50,7 +50,7 @@ unfolding flowOf
 rows-prepared held legal e = record { few = legal .size .1; each = λ i l. e .at i l }
 
 -- the numbers that count fit a byte
-pub rows-bytes : (held : FlowRows) → Legal (flowOf held) → AllBytes (held .instructions) (held .count)
+pub rows-bytes : (held : FlowRows) → Legal (flowOf held) → AllFitBytes (held .instructions) (held .count)
 unfolding flowOf
 rows-bytes held legal i l =
     let flow = flowOf held in

@@ -9,7 +9,7 @@ use Rattle.flow.specs.Limits.{maxInstructions}
 use Rattle.flow.specs.Code.{rowOf, instructionOf}
 use Rattle.flow.specs.Legal.{Legal}
 use Rattle.flow.specs.declared.Instruction.{Instruction as Row}
-use Rattle.configuration.specs.Inner.{Bytes}
+use Rattle.configuration.specs.Inner.{FitBytes}
 use Rattle.configuration.specs.Op.{widthOf}
 use Rattle.configuration.specs.Step.{startOf}
 use Rattle.table.specs.Passes.{Prepared}
@@ -24,8 +24,8 @@ unfoldable pub exitsIn : Row → Bool
 exitsIn x = hasExits (instructionOf x)
 
 -- rows whose numbers that count fit a byte
-abbrev pub AllBytes : List Row → (count : ℕ) → Type 0
-AllBytes rows count = (i : ℕ) → i < count → Bytes (getD rows i (rowOf stop))
+abbrev pub AllFitBytes : List Row → (count : ℕ) → Type 0
+AllFitBytes rows count = (i : ℕ) → i < count → FitBytes (getD rows i (rowOf stop))
 
 -- instruction number i + 1 of those that the first rows hold, `stop` past them
 abbrev pub lineAt : List Row → (count i : ℕ) → Instruction

@@ -4,7 +4,7 @@ ghost use Rattle.flow.specs.Code.{flowOf};
 ghost use Rattle.flow.specs.Legal.{Legal};
 ghost use Rattle.configuration.specs.Op.{opOf};
 ghost use Rattle.table.specs.Passes.{blank};
-ghost use Rattle.tape_maker.specs.Inner.{AllBytes, Each, Planned};
+ghost use Rattle.tape_maker.specs.Inner.{AllFitBytes, Each, Planned};
 use configuration::Op;
 use configuration::Words;
 use configuration::constants;
@@ -26,7 +26,7 @@ fn prepare(
     count: usize,
     lo: i32,
 ) -> [Op; Flow::MAX_INSTRUCTIONS]
-    requires { ⌜ (count ≤ 64) × AllBytes instructions count ⌝ }
+    requires { ⌜ (count ≤ 64) × AllFitBytes instructions count ⌝ }
     ensures { λ r. ⌜ Each (opOf lo) blank instructions count r ⌝ }
 {
     let mut ops = [Op::stop(); Flow::MAX_INSTRUCTIONS];

@@ -3,7 +3,7 @@ use mathlib.Core.Path.{_≡_, sym, ap, _∙_}
 use borrow.Author.Needs.{needs}
 use borrow.Author.Tests.{eq-eqb, ne-eqb, not-true, not-false}
 use Rattle.model.specs.Language.{Instruction, fields}
-use Rattle.flow.specs.Read.{all, inRange}
+use Rattle.flow.specs.Read.{ok, all, inRange}
 use Rattle.flow.specs.Code.{row, instructionOf}
 use Rattle.flow.specs.Line.{endLine}
 use Rattle.flow.proofs.RowLaws.{built-row}
@@ -25,9 +25,11 @@ returns-2 c = rw (eq-eqb _ _ (c .before .before .if1 .left), sym (tested (c .bef
 
 returns-3 : tie.Need-returns-3
 unfolding endLine
-returns-3 c = rw (eq-eqb _ _ (c .before .before .if1 .left), sym (tested (c .before)) ∙ not-false _ (c .if2 .left))
+returns-3 c =
+    let t = c .before in
+    rw (eq-eqb _ _ (t .before .before .if1 .left), sym (tested (t .before)) ∙ not-false _ (t .if2 .left)) (ap ok (c .new .ensures))
 
 pub end-spec : {M : Type 1} → statement M
 end-spec =
     tie.close
-    (tie.spec (λ c. search needs) (λ c. search needs) returns (λ c κs. search needs) (λ c. search needs) returns-2 returns-3)
+    (tie.spec (λ c. search needs) (λ c. search needs) returns (λ c κs. search needs) (λ c. search needs) returns-2 (λ c κs. search needs) returns-3)

@@ -140,7 +140,7 @@ module _ (c : tie.After-end Inv-loop μ-loop Inv-lines μ-lines) where
   abbrev row : Row
   row = rowBy (start its-start .kind) (nums past)
 
-  stepped : endedIn row (c .end .result) ≡ laws.stepped (head its-line) (count its-line) (fs its-line)
+  stepped : endedIn (c .end .result) ≡ laws.stepped (head its-line) (count its-line) (fs its-line)
   stepped =
       let w : k past ≡ length (cs its-start) = omega (arith, past .before .width .ensures) in
       let (zs, read, is) = laws.numbers-end (cs its-start) (fs its-line) (nums past) (k past) (past .loop .inv .3) (omega arith) in
@@ -177,41 +177,39 @@ loop-again c =
     let is : toZ w32 (ofZ w32 (c .in-bounds .result)) ≡ bounded v = toZ-ofZ g ∙ c .in-bounds .ensures ∙ ap bounded (toZ-ofZ f) in (
       omega arith,
       simp length-set (m .loop .inv .1),
-      laws.zeros-less (toZ w32 (ofZ w32 (c .in-bounds .result))) (nums m) (k m) four (m .loop .inv .2),
+      laws.filler-less 4 (pos 0) (toZ w32 (ofZ w32 (c .in-bounds .result))) (nums m) (k m) four (m .loop .inv .2),
       rw is (laws.numbers-more (cs s) (fs (line-at s)) (nums m) (k m) (m .loop .inv .3) width (begun s .1) v (omega arith) read),
     )
 
-mul-rows : tie.Need-mul-rows Inv-loop μ-loop Inv-lines μ-lines
-mul-rows c = omega (arith, begun (its-start (c .before .before .before)) .0)
-
-array-set-from-rows : tie.Need-array-set-from-rows Inv-loop μ-loop Inv-lines μ-lines
-array-set-from-rows c = omega (arith, begun (its-start (c .before .before .before)) .0)
+with-row-requires : tie.Need-with-row-requires Inv-loop μ-loop Inv-lines μ-lines
+with-row-requires c κs = omega (arith, begun (its-start (c .before .before .before)) .0)
 
 add-count : tie.Need-add-count Inv-loop μ-loop Inv-lines μ-lines
-add-count c = omega (arith, begun (its-start (c .before .before .before)) .0)
+add-count c = omega (arith, begun (its-start (c .before .before .before .before)) .0)
 
 add-at : tie.Need-add-at Inv-loop μ-loop Inv-lines μ-lines
 add-at c =
-    let l = its-line (c .before .before .before) in
+    let l = its-line (c .before .before .before .before) in
     omega (arith, l .before .end-of .ensures .1, l .before .before .before .before .before .before .good .0 .1)
 
 lines-less : tie.Need-lines-less Inv-loop μ-loop Inv-lines μ-lines
 lines-less c =
-    let l = its-line (c .before .before .before) in
+    let l = its-line (c .before .before .before .before) in
     omega (arith, l .before .end-of .ensures .1, l .before .before .if1 .left, l .before .end-of .ensures .0)
 
 lines-again : tie.Need-lines-again Inv-loop μ-loop Inv-lines μ-lines
 lines-again c =
-    let t = c .before .before .before in
+    let t = c .before .before .before .before in
     let l = its-line t in
     let few = begun (its-start t) .0 in
+    let kept-row = c .before .before .kept .given .0 .0 in
     let inv = l .before .before .before .lines .inv in
-    let is = ap (set (rows l) (count l)) (c .new .ensures) in (
+    let is = c .with-row .ensures in (
       omega (arith, l .before .end-of .ensures .1),
       omega (arith, few),
       ap length is ∙ simp length-set (inv .2),
-      ap (drop (count l + 1)) is ∙ laws.stops-less (rowOf stop) (row t) (rows l) (count l) few (inv .3),
-      more l (row t) (set (rows l) (count l) (c .new .result)) is few (sym (stepped t) ∙ ap (endedIn (row t)) (c .before .enum-told2 .given .1)),
+      ap (drop (count l + 1)) is ∙ laws.filler-less 64 (rowOf stop) kept-row (rows l) (count l) few (inv .3),
+      more l kept-row (c .with-row .result) is few (sym (stepped t) ∙ ap endedIn (c .before .before .kept .given .1)),
     )
 
 returns : tie.Need-returns Inv-loop μ-loop Inv-lines μ-lines
@@ -244,7 +242,7 @@ returns-4 : tie.Need-returns-4 Inv-loop μ-loop Inv-lines μ-lines
 unfolding linesIn answered
 returns-4 c =
     let t = c .before .before .before in
-    refused (its-line t) (c .before .r2 .given .0 .0) (sym (stepped t) ∙ ap (endedIn (row t)) (c .before .r2 .given .1))
+    refused (its-line t) (c .before .r2 .given .0 .0) (sym (stepped t) ∙ ap endedIn (c .before .r2 .given .1))
 
 pub read-lines-spec : {M : Type 1} → statement M
 read-lines-spec =
@@ -279,9 +277,7 @@ read-lines-spec =
     (λ c κs. omega arith)
     (λ c. search needs)
     (λ c. search needs)
-    (λ c κs. search needs)
-    mul-rows
-    array-set-from-rows
+    with-row-requires
     add-count
     add-at
     lines-less
