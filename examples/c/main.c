@@ -5,10 +5,10 @@
 
 #define CELLS 4096
 #define EACH TILSANDO_INSTRUCTIONS
-static uint8_t text[4097], two[EACH], numbers[CELLS];
+static uint8_t text[TILSANDO_BYTES + 1], two[EACH], numbers[CELLS];
 static uint32_t cells[CELLS][TILSANDO_CELL_WORDS], p[EACH], m[EACH], taken_p[EACH], taken_m[EACH];
 static int32_t row[CELLS], values[CELLS];
-static uint64_t answer[5];
+static uint64_t answer[TILSANDO_SAMPLE_SIZE];
 
 static void print_exit(uint64_t i, char exit, uint32_t distance) {
     printf(distance ? "%" PRIu64 ",%c,%" PRIu32 "\n" : "%" PRIu64 ",%c,none\n", i, exit, distance);
@@ -16,23 +16,26 @@ static void print_exit(uint64_t i, char exit, uint32_t distance) {
 
 /* The tapes one after another, as `(6,9)()`. */
 static void try_exit(size_t n, uint64_t i, char exit) {
-    uint32_t why = tilsando_sample(text, n, i, exit == 'p', cells, CELLS, row, CELLS, answer, 5);
+    uint32_t why = tilsando_sample(text, n, i, exit == 'p', cells, CELLS, row, CELLS, answer, TILSANDO_SAMPLE_SIZE);
     printf("sample,%" PRIu64 ",%c,", i, exit);
-    if (why || !answer[0]) {
+    uint64_t distance = answer[TILSANDO_SAMPLE_DISTANCE], part[TILSANDO_TAPE_SIZE];
+    if (why || !distance) {
         printf(why ? "refused,%" PRIu32 "\n" : "none\n", TILSANDO_NUMBER(why));
         return;
     }
-    uint64_t distance = answer[0], part[2];
-    size_t tapes = answer[1], lengths[TILSANDO_TAPES] = {answer[2], answer[3], answer[4]}, total = answer[2] + answer[3] + answer[4];
+    size_t tapes = answer[TILSANDO_SAMPLE_TAPES], lengths[TILSANDO_TAPES], total = 0;
+    for (size_t a = 0; a < TILSANDO_TAPES; a++)
+        total += lengths[a] = answer[TILSANDO_SAMPLE_LENGTHS + a];
     for (size_t tape = 1; tape <= tapes; tape++) {
-        tilsando_tape(row, total, lengths, tapes, tape, part, 2);
+        tilsando_tape(row, total, lengths, tapes, tape, part, TILSANDO_TAPE_SIZE);
         putchar('(');
-        for (uint64_t k = 0; k < part[1]; k++)
-            printf(k ? ",%" PRId32 : "%" PRId32, row[part[0] + k]);
+        for (uint64_t k = 0; k < part[TILSANDO_TAPE_COUNT]; k++)
+            printf(k ? ",%" PRId32 : "%" PRId32, row[part[TILSANDO_TAPE_START] + k]);
         putchar(')');
     }
-    why = tilsando_run(text, n, distance, row, total, lengths, tapes, numbers, CELLS, values, CELLS, taken_p, EACH, taken_m, EACH, answer, 3);
-    puts(!why && (exit == 'p' ? taken_p : taken_m)[i - 1] == 1 && answer[1] == distance ? ",taken" : ",NOT TAKEN");
+    why = tilsando_run(text, n, distance, row, total, lengths, tapes, numbers, CELLS, values, CELLS, taken_p, EACH, taken_m, EACH, answer,
+        TILSANDO_RUN_SIZE);
+    puts(!why && (exit == 'p' ? taken_p : taken_m)[i - 1] == 1 && answer[TILSANDO_RUN_STEPS] == distance ? ",taken" : ",NOT TAKEN");
 }
 
 int main(int argc, char **argv) {
@@ -40,10 +43,10 @@ int main(int argc, char **argv) {
     if (!file)
         return 2;
     size_t n = fread(text, 1, sizeof text, file);
-    uint32_t why = tilsando_report(text, n, cells, CELLS, two, EACH, p, EACH, m, EACH, answer, 2);
+    uint32_t why = tilsando_report(text, n, cells, CELLS, two, EACH, p, EACH, m, EACH, answer, TILSANDO_REPORT_SIZE);
     if (why)
         return printf("refused,%" PRIu32 ",%" PRIu32 "\n", TILSANDO_NUMBER(why), TILSANDO_PLACE(why)), 0;
-    printf("report,%" PRIu64 ",%" PRIu64 "\n", answer[0], answer[1]);
+    printf("report,%" PRIu64 ",%" PRIu64 "\n", answer[TILSANDO_REPORT_INSTRUCTIONS], answer[TILSANDO_REPORT_CONFIGURATIONS]);
     for (int i = 0; i < EACH; i++)
         if (two[i])
             print_exit(i + 1, 'p', p[i]), print_exit(i + 1, 'm', m[i]);

@@ -1,14 +1,16 @@
 //! Prints the report of the flow in a file; then for each exit a sample, and whether the run on its tapes takes the exit.
-//! A row is a pointer and its length, as in include/tilsando.h.
+//! A row is a pointer and its length, and the values of an answer stand as include/tilsando.h says.
 const CELLS: usize = 4096;
+const EACH: usize = 64;
 type Row<T> = [T; CELLS];
-type Each<T> = [T; 64];
+type Each<T> = [T; EACH];
+type Cells = Row<[u32; 10]>;
 
 #[link(name = "tilsando", kind = "static")]
 extern "C" {
-    fn tilsando_report(text: *const u8, _: usize, cells: &mut Row<[u32; 10]>, _: usize, two: &mut Each<u8>, _: usize, p: &mut Each<u32>, _: usize,
+    fn tilsando_report(text: *const u8, _: usize, cells: &mut Cells, _: usize, two: &mut Each<u8>, _: usize, p: &mut Each<u32>, _: usize,
         m: &mut Each<u32>, _: usize, answer: &mut [u64; 2], _: usize) -> u32;
-    fn tilsando_sample(text: *const u8, _: usize, instruction: u64, exit: u8, cells: &mut Row<[u32; 10]>, _: usize, row: &mut Row<i32>, _: usize,
+    fn tilsando_sample(text: *const u8, _: usize, instruction: u64, exit: u8, cells: &mut Cells, _: usize, row: &mut Row<i32>, _: usize,
         answer: &mut [u64; 5], _: usize) -> u32;
     fn tilsando_tape(row: &Row<i32>, _: usize, lengths: *const usize, _: usize, tape: usize, answer: &mut [u64; 2], _: usize) -> u32;
     fn tilsando_run(text: *const u8, _: usize, limit: u64, records: &Row<i32>, _: usize, lengths: *const usize, _: usize, numbers: &mut Row<u8>, _: usize,
@@ -16,37 +18,40 @@ extern "C" {
 }
 
 /// The sample for an exit: its tapes one after another, as `(6,9)()`, and whether its run takes the exit.
-fn try_exit(cells: &mut Row<[u32; 10]>, text: &[u8], i: usize, exit: char) -> String {
+fn try_exit(cells: &mut Cells, text: &[u8], i: usize, exit: char) -> String {
     let (mut row, mut answer, mut part, mut ran) = ([0; CELLS], [0; 5], [0; 2], [0; 3]);
     let why = unsafe { tilsando_sample(text.as_ptr(), text.len(), i as u64, (exit == 'p') as u8, cells, CELLS, &mut row, CELLS, &mut answer, 5) };
-    let [distance, tapes, ..] = answer;
+    let [distance, tapes, lengths @ ..] = answer;
     if why != 0 || distance == 0 {
         return if why != 0 { format!("refused,{}", why % 256) } else { "none".to_string() };
     }
-    let lengths: Vec<usize> = answer[2..][..tapes as usize].iter().map(|n| *n as usize).collect();
+    let lengths: Vec<usize> = lengths[..tapes as usize].iter().map(|n| *n as usize).collect();
     let total = lengths.iter().sum();
     let mut told = String::new();
     for tape in 1..=lengths.len() {
         unsafe { tilsando_tape(&row, total, lengths.as_ptr(), lengths.len(), tape, &mut part, 2) };
-        let records = &row[part[0] as usize..][..part[1] as usize];
+        let [start, count] = part;
+        let records = &row[start as usize..][..count as usize];
         told += &format!("({})", records.iter().map(i32::to_string).collect::<Vec<_>>().join(","));
     }
-    let (mut numbers, mut values, mut p, mut m) = ([0; CELLS], [0; CELLS], [0; 64], [0; 64]);
+    let (mut numbers, mut values, mut p, mut m) = ([0; CELLS], [0; CELLS], [0; EACH], [0; EACH]);
     let why = unsafe { tilsando_run(text.as_ptr(), text.len(), distance, &row, total, lengths.as_ptr(), lengths.len(), &mut numbers, CELLS,
-        &mut values, CELLS, &mut p, 64, &mut m, 64, &mut ran, 3) };
-    let taken = why == 0 && if exit == 'p' { p } else { m }[i - 1] == 1 && ran[1] == distance;
+        &mut values, CELLS, &mut p, EACH, &mut m, EACH, &mut ran, 3) };
+    let [_end, steps, _puts] = ran;
+    let taken = why == 0 && if exit == 'p' { p } else { m }[i - 1] == 1 && steps == distance;
     told + if taken { ",taken" } else { ",NOT TAKEN" }
 }
 
 fn main() {
     let text = std::fs::read(std::env::args().nth(1).expect("the name of a file")).expect("a flow");
-    let (mut cells, mut two, mut p, mut m, mut answer) = ([[0; 10]; CELLS], [0; 64], [0; 64], [0; 64], [0; 2]);
-    let why = unsafe { tilsando_report(text.as_ptr(), text.len(), &mut cells, CELLS, &mut two, 64, &mut p, 64, &mut m, 64, &mut answer, 2) };
+    let (mut cells, mut two, mut p, mut m, mut answer) = ([[0; 10]; CELLS], [0; EACH], [0; EACH], [0; EACH], [0; 2]);
+    let why = unsafe { tilsando_report(text.as_ptr(), text.len(), &mut cells, CELLS, &mut two, EACH, &mut p, EACH, &mut m, EACH, &mut answer, 2) };
     if why != 0 {
         return println!("refused,{},{}", why % 256, why / 256);
     }
-    println!("report,{},{}", answer[0], answer[1]);
-    let exits: Vec<_> = (0..64).filter(|i| two[*i] == 1).flat_map(|i| [(i + 1, 'p', p[i]), (i + 1, 'm', m[i])]).collect();
+    let [instructions, configurations] = answer;
+    println!("report,{instructions},{configurations}");
+    let exits: Vec<_> = (0..EACH).filter(|i| two[*i] == 1).flat_map(|i| [(i + 1, 'p', p[i]), (i + 1, 'm', m[i])]).collect();
     exits.iter().for_each(|(i, exit, d)| println!("{i},{exit},{}", if *d == 0 { "none".to_string() } else { d.to_string() }));
     exits.iter().for_each(|(i, exit, _)| println!("sample,{i},{exit},{}", try_exit(&mut cells, &text, *i, *exit)));
 }
