@@ -134,9 +134,9 @@ fn fold(x: u64) -> u64
     (x ^ x / HALF) % HALF
 }
 
-// The bucket of a node. Factors of 32 bits spread small numbers over a word; two rounds leave no trace of the pattern's upper lanes. Nodes that
-// differ in the first lane alone lie side by side, and those that differ in the place alone a fixed way apart, so that what visits them in turn
-// meets neighbouring cells.
+// The bucket of a node. Factors of 32 bits spread small numbers over a word, and two rounds mix the pattern's upper lanes. Nodes that
+// differ in the first lane alone lie side by side, and those that differ in the place alone at a fixed distance, so that a search
+// that visits them one after another uses neighbouring cells.
 pub fn bucket(place: u64, pattern: u64, size: usize) -> usize
     requires { ⌜ (0 < size) × (size ≤ mostCells) ⌝ }
     ensures { λ r. ⌜ (r ≡ bucketOf (node place pattern) size) × (r < size) ⌝ }

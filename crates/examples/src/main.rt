@@ -1,4 +1,4 @@
-// The pieces of document 01 and the flows of flows/, run and printed. Of a run: the end, the steps and the puts, then how often each
+// The pieces of document 01, and the merge of flows/, run and printed. Of a run: the end, the steps and the puts, then how often each
 // exit of the first instructions was taken. Of a flow: its report. The stored output has what the document says.
 use tape_maker::Cell;
 use tape_maker::RunAnswer;

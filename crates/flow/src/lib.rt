@@ -33,7 +33,7 @@ pub enum Kind {
     Stop,
 }
 
-// What a field after the word names; `Target`, the first, stands past the last field too.
+// What a field after the word names. `Target`, the first case, also stands past the last field.
 pub enum Sort {
     Target,
     Tape,
@@ -73,7 +73,7 @@ pub struct Flow {
     pub instructions: [Instruction; Flow::MAX_INSTRUCTIONS],
 }
 
-// Why a request is turned back; a number is the line's. The first eleven concern the text of a flow.
+// Why a request is turned back; the number in a case is that of the line. The first eleven cases concern the text of a flow.
 pub enum Refusal {
     TooLong,
     NoBytes,

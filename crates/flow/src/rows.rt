@@ -1,7 +1,7 @@
 // The numbers of a line as a row keeps them, and whether they lie in their ranges.
 //
-// A number of a line is at most 10,000,000,000 here, and a row keeps less: a number past what a row keeps is given as one that
-// is past every range too (specs/Inner.antt).
+// The size of a number comes here with at most 10,000,000,000, and a row keeps at most 100,000: for a larger number it keeps one that
+// lies outside every range too (`bounded`).
 ghost use mathlib.Core.Path.{_≡_};
 ghost use mathlib.Core.Option.{some};
 ghost use Prim.Native.Nat.{min};

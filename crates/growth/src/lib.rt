@@ -1,4 +1,4 @@
-// How the table of configurations grows: words are stored unless they are, one by one or a fan at a time.
+// How the table of configurations grows: words that are not stored yet are stored, one by one or a fan at a time.
 //
 // A read that finds a record leads to a fan: words that differ in one variable. The fan depends on its first member alone, so the cell of that
 // member has a mark for each variable that says that the fan is stored whole. A configuration lies in at most four fans, one for each variable,
@@ -30,7 +30,7 @@ pub enum Grown {
     Full,
 }
 
-// Stores the words y, unless they are stored, at distance d from parent k.
+// Stores the words y, if they are not stored yet, at distance d and with parent k.
 pub fn visit(
     cells: &mut [[u32; Cell::WORDS]],
     count: usize,
@@ -129,8 +129,8 @@ fn opens(op: Op, x: Words) -> bool
     }
 }
 
-// Visits what a read that finds a record leads to from x, which is entry k: its fan, unless the fan is marked. The mark comes first: where a
-// member finds no cell the search is over.
+// Visits what a read that finds a record leads to from x, which is entry k: its fan, unless the fan is marked. The mark is set before the
+// members are stored: if one of them finds no cell, the search is over.
 pub fn fan(
     cells: &mut [[u32; Cell::WORDS]],
     count: usize,

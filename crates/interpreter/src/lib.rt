@@ -117,7 +117,7 @@ fn assign(variables: &mut Variables, v: usize, y: i32)
     variables[i] = y;
 }
 
-// Puts the variable of a put into the output rows; the puts done then.
+// Writes what an instruction puts into the output rows, if it is a put, and gives the number of puts done then.
 fn put(
     x: Instruction,
     variables: &Variables,
@@ -203,7 +203,7 @@ fn read_record(
     either(x, true)
 }
 
-// One step but for `stop`.
+// One step of an instruction other than `stop`.
 fn step(
     x: Instruction,
     records: &[i32],

@@ -32,7 +32,7 @@ use tapes::Walk;
 
 const TAPES: usize = Flow::MAX_TAPES as usize;
 
-// Whether a sample was taken, or no tapes take the exit.
+// How a wish for a sample ends: with a sample, with none, since no tapes take the exit, or with a refusal.
 pub enum SampleEnd {
     Taken,
     Never,
@@ -119,7 +119,7 @@ fn quiet(walk: Walk, op: Op, lo: i32) -> Walk
     }
 }
 
-// Whether a step to the place word reads a record: a read that finds none ends its tape.
+// Whether a step of op to the words `next` reads a record: a read that finds none ends its tape.
 fn takes_record(op: Op, next: Words) -> bool
     ensures { λ r. ⌜ r ≡ takesRecord op next ⌝ }
 {
@@ -148,7 +148,7 @@ fn step(row: &mut [i32], walk: Walk, op: Op, next: Words, w: u64, lo: i32, hi: i
     quiet(walk, op, lo)
 }
 
-// The record of the last step, if it takes p of a read: 0, if the values allow it.
+// The record of the last step, if that step takes p of a read: the one that is chosen for the wish 0.
 fn last_read(row: &mut [i32], walk: Walk, op: Op, exit: bool, lo: i32, hi: i32)
     requires { ⌜ Fine op ⌝ }
     requires { ⌜ ((isRead (op .action) && exit) ≡ true → Ready walk (op .tape) (op .variable) (now row) × Movable lo × Movable hi) ⌝ }
@@ -166,7 +166,7 @@ fn last_read(row: &mut [i32], walk: Walk, op: Op, exit: bool, lo: i32, hi: i32)
     }
 }
 
-// Where an array holds what belongs to the instruction that a place word stands at.
+// The index, in an array by instruction, of the instruction at which a place word stands.
 fn index(place: u64) -> usize
     requires { ⌜ Stands place ⌝ }
     ensures { λ r. ⌜ (r ≡ atOf place - 1) × (r < maxInstructions) ⌝ }

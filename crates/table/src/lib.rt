@@ -25,7 +25,7 @@ use configuration::Words;
 use configuration::place;
 use flow::Flow;
 
-// The tapes of a way: those that a flow does not have yield nothing.
+// The tapes of a way; those that a flow does not have yield no records.
 const TAPES: usize = Flow::MAX_TAPES as usize;
 
 // The distances of the exits p and m of every instruction, that of instruction i at i - 1; 0 for none.
@@ -45,7 +45,7 @@ pub fn words_at(cells: &[[u32; Cell::WORDS]], k: usize) -> Words
     }
 }
 
-// Where an array holds what belongs to the instruction that a place word stands at.
+// The index, in an array by instruction, of the instruction at which a place word stands.
 fn index(place: u64) -> usize
     requires { ⌜ Stands place ⌝ }
     ensures { λ r. ⌜ (atOf place ≡ r + 1) × (r < 64) ⌝ }
@@ -53,7 +53,7 @@ fn index(place: u64) -> usize
     place::at(place) - 1
 }
 
-// What is listed for an exit after an entry at a distance of d - 1: the first that takes it stays.
+// The number listed for an exit after an entry at distance d - 1: that of the first entry that takes the exit stays.
 fn kept(cell: u32, taken: bool, d: u32) -> u32
     ensures { λ r. ⌜ r ≡ cond (taken && eqb cell 0) d cell ⌝ }
 {
@@ -71,7 +71,7 @@ struct Numbers {
     m: u32,
 }
 
-// What is listed for the exits of an instruction after the entry x, at a distance of d - 1; where both are listed x need not be looked at.
+// The numbers listed for the exits of an instruction after its entry x, at distance d - 1. If both are listed before, x is not looked at.
 fn list_exits(p: u32, m: u32, op: Op, w: u64, x: Words, d: u32) -> Numbers
     requires { ⌜ Width w ⌝ }
     ensures { λ r. ⌜ (r .p ≡ cond (takesOf w op x p-exit && eqb p 0) d p) × (r .m ≡ cond (takesOf w op x m-exit && eqb m 0) d m) ⌝ }

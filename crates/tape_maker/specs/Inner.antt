@@ -39,7 +39,7 @@ exitsAt rows count i = hasExits (getD (stop ∷ map instructionOf (take count ro
 pub record Each {A : Type 0} (f : Instruction → A) (d : A) (rows : List Row) (count : ℕ) (xs : List A) : Type 0 where
   pub at : (i : ℕ) → i < maxInstructions → getD xs i d ≡ f (lineAt rows count i)
 
--- what a legal flow is searched by: its instructions prepared, the width of its constants, the start, and C1 and C2
+-- what a search needs of a legal flow: its instructions prepared, the width of its constants, the start, and C1 and C2
 pub record Planned (flow : Flow) (p : Plan) : Type 0 where
   pub legal : Legal flow
   pub prepared : Prepared (C1 flow) flow (p .ops)

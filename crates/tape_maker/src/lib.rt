@@ -1,7 +1,7 @@
 // The tape maker: what a maker calls. Each function takes a flow as text, refuses a faulty request itself, and has no condition on
 // its caller; specs/ has one definition for each.
 mod running; // running.rt: the request for a run
-mod planning; // planning.rt: what a flow is searched by
+mod planning; // planning.rt: what a search needs of a flow
 mod reporting; // reporting.rt: the report
 mod sampling; // sampling.rt: the sample for one exit
 

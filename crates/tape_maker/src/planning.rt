@@ -1,4 +1,4 @@
-// What a flow is searched by.
+// What a search needs of a flow.
 ghost use Prim.Native.Nat.{_≤_};
 ghost use Rattle.flow.specs.Code.{flowOf};
 ghost use Rattle.flow.specs.Legal.{Legal};
@@ -11,7 +11,7 @@ use configuration::constants;
 use flow::Flow;
 use flow::Instruction;
 
-// What a flow is searched by: its instructions, prepared; the width of its constants, C1 and C2; and the start.
+// What a search needs of a flow: its instructions, prepared; the width of its constants, C1 and C2; and the start.
 pub struct Plan {
     pub ops: [Op; Flow::MAX_INSTRUCTIONS],
     pub w: u64,

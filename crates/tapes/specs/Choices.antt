@@ -1,5 +1,5 @@
--- Which record a read gets. A *wish* is any valuation whose pattern is the next configuration's; the record does to the values what
--- the wish has in the variable that is read.
+-- Which record a read gets. A *wish* is any valuation with the pattern of the next configuration. The record is chosen so that the values,
+-- with the record in the variable that is read, get this pattern too.
 use mathlib.Core.Bool.{Bool, true, false, cond}
 use mathlib.Core.List.{List, [], _∷_}
 use Prim.Native.Nat.{ℕ, suc}
@@ -18,8 +18,8 @@ unfoldable pub firstAt : ℕ → ℤ → List ℤ → ℕ
 firstAt i y [] = i
 firstAt i y (x ∷ l) = cond (equal x y) i (firstAt (suc i) y l)
 
--- a wish y beyond the edge e: the value of a variable that is wished to be equal, or a number next to the furthest of those that
--- are wished to lie before y. A record is not fixed at the edge: what lies further out makes room
+-- for a wish y beyond the edge e: the value of a variable whose wish is y; or, if there is none, the number next to the furthest of e and
+-- the values whose wish lies before y. The numbers beyond that one move out
 unfoldable pub chooseBeyond : (up : Bool) → (e y : ℤ) → (wish values : List ℤ) → Choice
 chooseBeyond up e y wish values =
     cond (ltb (firstAt 0 y wish) (length wish))
@@ -30,7 +30,7 @@ unfoldable pub choose : (lo hi y : ℤ) → (wish values : List ℤ) → Choice
 choose lo hi y wish values =
     cond (ltZ hi y) (chooseBeyond true hi y wish values) (cond (ltZ y lo) (chooseBeyond false lo y wish values) (Take y))
 
--- for variable u, whose old value does not count: 0, which is never beyond, stands for it
+-- the choice for variable u. Its old value does not count: 0, which lies beyond no edge, takes its place
 abbrev pub chosen : (lo hi : ℤ) → (wish values : List ℤ) → (u : ℕ) → Choice
 chosen lo hi wish values u = choose lo hi (getD wish u (pos 0)) (set wish u (pos 0)) (set values u (pos 0))
 

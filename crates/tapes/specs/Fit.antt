@@ -1,5 +1,5 @@
 -- What every step of a walk keeps: each tape has its part of the row, and the records stay in their range (document 01: each lies
--- between C1 less the distance and C2 plus the distance). A step reads one record at most, so the reads stand for the distance.
+-- between C1 less the distance and C2 plus the distance). A step reads one record at most, so there are no more reads than steps.
 use mathlib.Core.Path.{_≡_}
 use mathlib.Core.List.{List}
 use Prim.Native.Nat.{ℕ, _≤_}
@@ -14,7 +14,7 @@ use Rattle.tapes.specs.Layout.{Laid}
 use Rattle.tapes.specs.Reading.{written}
 use Rattle.tapes.specs.declared.Walk.{Walk}
 
--- as many records as are ever written
+-- no sample has more records
 abbrev pub mostRecords : ℕ
 mostRecords = 131072
 

@@ -1,4 +1,4 @@
-// Which record a read gets: decided by comparisons of the wish and the values, with no look at the row.
+// Which record a read gets. This is decided by comparing the wish with the values; the row is not looked at.
 ghost use mathlib.Core.Path.{_≡_};
 ghost use mathlib.Core.Bool.{cond, _&&_};
 ghost use Prim.Native.Nat.{_<_};
@@ -22,7 +22,7 @@ fn pick(up: bool, y: i32, a: i32, b: i32, m: i32) -> i32
     m
 }
 
-// The furthest of the edge and the values of those variables that are wished to lie before y.
+// The furthest of the edge and the values whose wish lies before y.
 fn furthest(up: bool, edge: i32, y: i32, wish: [i32; 4], values: [i32; 4]) -> i32
     ensures { λ r. ⌜ r ≡ furthestOf (furtherOf up) edge y wish values ⌝ }
 {

@@ -19,7 +19,7 @@ ghost use Rattle.tapes.specs.Choices.{chosen, moveOf, Safe};
 ghost use Rattle.tapes.specs.Reading.{firstWalk, roomed, walkAfter, rowAfter, Ready};
 ghost use Rattle.tapes.specs.Fit.{mostRecords};
 
-// What a read gets: a record that has its place already, or the number next to one, outward, for which the numbers beyond it move.
+// What a read gets: a number that needs no room, or the number next to m, outward; then the numbers beyond m move.
 pub enum Choice {
     Take(i32),
     Between(bool, i32),

@@ -39,7 +39,7 @@ fn moved_one(up: bool, m: i32, x: i32) -> i32
     x
 }
 
-// All numbers of a part, those too that no variable holds any more: else an earlier comparison could turn.
+// Moves all numbers of a part, also those that no variable holds any more: else an earlier comparison could have another result.
 pub fn shift(part: &mut [i32], up: bool, m: i32)
     requires { ⌜ All Movable (now part) ⌝ }
     ensures { λ _. ⌜ now (part .exit) ≡ map (moved up m) (now (part .entry)) ⌝ }
