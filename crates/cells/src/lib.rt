@@ -1,5 +1,5 @@
-// The lent work cells of a search over nodes of two words: found by a hash index with chains, stored, marked, counted and zeroed, and the
-// way of parents of an entry written out. What the nodes mean, and which leads to which, is not known here.
+// The lent work cells of a search over nodes of two words. A node is found by a hash index with chains, stored and marked; cells are counted
+// and zeroed; the way of parents to an entry is written out. What the nodes mean, and which leads to which, is not known here.
 ghost use mathlib.Core.Path.{_≡_};
 ghost use Prim.Native.Nat.{_+_, _*_, _/_, _%_, _<_, _≤_, min};
 ghost use lib.ListN.{length, getD, set};

@@ -33,7 +33,7 @@ pub fn width(range: Range) -> u64
     offset_of(range.hi, range.lo) as u64 + 1
 }
 
-// A number counted from 1, counted from 0.
+// The index, from 0 on, of a number that counts from 1.
 fn index(n: u8) -> u8
     ensures { λ r. ⌜ r ≡ n - 1 ⌝ }
 {

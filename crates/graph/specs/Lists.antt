@@ -21,7 +21,7 @@ pub record Census {A : Type 0} (P : A → Type 0) (list : List A) : Type 0 where
   pub all : (x : A) → P x → In x list
   pub only : (x : A) → In x list → P x
 
--- more than n things are P: some list holds that many, each once
+-- more than n things are P: some list holds more than n of them, each once
 pub record MoreThan {A : Type 0} (P : A → Type 0) (n : ℕ) : Type 0 where
   pub list : List A
   pub once : Once list

@@ -47,7 +47,7 @@ pub struct SampleAnswer {
     pub lengths: [usize; TAPES],
 }
 
-// The value by which the code of variable u is tried.
+// The value that a trial uses for the code of variable u.
 fn wish_at(word: u64, w: u64, lo: i32, u: u8) -> i32
     requires { ⌜ Width w ⌝ }
     requires { ⌜ Low lo ⌝ }
@@ -274,7 +274,7 @@ pub fn without(end: SampleEnd) -> SampleAnswer
     }
 }
 
-// The sample for the exit, p if `exit`, that entry k is the nearest to take: the way to the entry is written into the cells, and the records
+// The sample for an exit, p if `exit`; entry k is the nearest that takes it. The way to the entry is written into the cells, and the records
 // that are read on it into the row.
 fn sample_at(
     cells: &mut [[u32; Cell::WORDS]],

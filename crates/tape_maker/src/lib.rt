@@ -1,5 +1,5 @@
 // The tape maker: what a maker calls. Each function takes a flow as text, refuses a faulty request itself, and has no condition on
-// its caller; specs/ has one definition for each.
+// its caller; specs/ has the promise of each but `tape`, whose definitions are in crate sample_row.
 mod running; // running.rt: the request for a run
 mod planning; // planning.rt: what a search needs of a flow
 mod reporting; // reporting.rt: the report
