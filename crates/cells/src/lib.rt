@@ -47,7 +47,8 @@ impl Cell {
     pub const BUCKET: usize = 9;
 }
 
-fn wide(x: u32) -> usize
+// A number of a cell, for an index.
+pub fn wide(x: u32) -> usize
     ensures { λ r. ⌜ r ≡ x ⌝ }
 {
     x as usize

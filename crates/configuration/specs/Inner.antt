@@ -6,6 +6,7 @@ use Prim.Native.Nat.{ℕ, _-_, _≤_, _<_}
 use lib.IntN.{ℤ, pos}
 use lib.ListN.{getD}
 use Rattle.model.specs.Language.{Instruction, fields, constants}
+use Rattle.flow.specs.Limits.{maxVariables}
 use Rattle.flow.specs.Words.{sorts, mayMinus, count, at}
 use Rattle.flow.specs.Code.{numbersIn}
 use Rattle.flow.specs.declared.Instruction.{Instruction as Row}
@@ -35,9 +36,9 @@ abbrev pub formed : Kind → (a b c d u v : ℕ) → Op
 formed Read a b c d u v = readOp (a - 1) (b - 1) c d
 formed Put a b c d u v = goOp c
 formed Copy a b c d u v = assignOp (a - 1) (b - 1) 0 c
-formed Set a b c d u v = assignOp 4 (b - 1) u c
+formed Set a b c d u v = assignOp maxVariables (b - 1) u c
 formed Less a b c d u v = testOp (a - 1) (b - 1) 0 c d
-formed Over a b c d u v = testOp 4 (b - 1) u c d
-formed Under a b c d u v = testOp (a - 1) 4 v c d
+formed Over a b c d u v = testOp maxVariables (b - 1) u c d
+formed Under a b c d u v = testOp (a - 1) maxVariables v c d
 formed Nop a b c d u v = goOp a
 formed Stop a b c d u v = stopOp

@@ -4,6 +4,7 @@ ghost use mathlib.Core.Path.{_≡_};
 ghost use mathlib.Core.Bool.{cond};
 ghost use Prim.Native.Nat.{_-_, _≤_, min};
 ghost use Rattle.model.specs.Language.{C1, C2};
+ghost use Rattle.flow.specs.Limits.{maxInstructions};
 ghost use Rattle.flow.specs.Words.{count};
 ghost use Rattle.flow.specs.Code.{instructionOf, flowOf};
 ghost use Rattle.configuration.specs.Inner.{FitBytes, constantIn, formed};
@@ -34,7 +35,7 @@ pub fn width(range: Range) -> u64
 }
 
 // The index, from 0 on, of a number that counts from 1.
-fn index(n: u8) -> u8
+fn from_zero(n: u8) -> u8
     ensures { λ r. ⌜ r ≡ n - 1 ⌝ }
 {
     if n == 0 {
@@ -62,25 +63,25 @@ fn form(kind: Kind, a: u8, b: u8, c: u8, d: u8, u: u32, v: u32) -> Op
 {
     match kind {
         Kind::Read => {
-            return Op::read(index(a), index(b), c, d);
+            return Op::read(from_zero(a), from_zero(b), c, d);
         }
         Kind::Put => {
             return Op::go(c);
         }
         Kind::Copy => {
-            return Op::assign(index(a), index(b), 0, c);
+            return Op::assign(from_zero(a), from_zero(b), 0, c);
         }
         Kind::Set => {
-            return Op::assign(4, index(b), u, c);
+            return Op::assign(Op::CONSTANT, from_zero(b), u, c);
         }
         Kind::Less => {
-            return Op::test(index(a), index(b), 0, c, d);
+            return Op::test(from_zero(a), from_zero(b), 0, c, d);
         }
         Kind::Over => {
-            return Op::test(4, index(b), u, c, d);
+            return Op::test(Op::CONSTANT, from_zero(b), u, c, d);
         }
         Kind::Under => {
-            return Op::test(index(a), 4, v, c, d);
+            return Op::test(from_zero(a), Op::CONSTANT, v, c, d);
         }
         Kind::Nop => {
             return Op::go(a);
@@ -130,7 +131,7 @@ fn pick(b: bool, x: i32, y: i32) -> i32
 
 // C1 and C2 of a flow.
 pub fn range_of(flow: Flow) -> Range
-    requires { ⌜ flow .count ≤ 64 ⌝ }
+    requires { ⌜ flow .count ≤ maxInstructions ⌝ }
     ensures { λ r. ⌜ (r .lo ≡ C1 (flowOf flow)) × (r .hi ≡ C2 (flowOf flow)) ⌝ }
 {
     let mut lo: i32 = 0;

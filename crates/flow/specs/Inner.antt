@@ -60,9 +60,12 @@ field Variable z = variable (count z)
 field Target z = target (count z)
 field Constant z = constant z
 
--- the sorts of the fields as the code holds them, four; those past the kind's own fields do not count
+-- a row has four numbers, and the code holds four sorts; those past the kind's own fields do not count
+abbrev pub maxNumbers : ℕ
+maxNumbers = 4
+
 abbrev pub four : List Sort → List Sort
-four ss = ss ++ replicate (4 - length ss) Target
+four ss = ss ++ replicate (maxNumbers - length ss) Target
 
 -- the code's answers, as the definitions have them
 abbrev pub headIn : Headed → Checked Head

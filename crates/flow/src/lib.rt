@@ -11,13 +11,14 @@ pub mod lent; // lent.rt: an instruction fetched from a lent slice, and stored t
 ghost use mathlib.Core.Path.{_≡_};
 ghost use Prim.Native.Nat.{_≤_, _<_};
 ghost use lib.ListN.{length, drop};
+ghost use Rattle.flow.specs.Limits.{maxInstructions};
 ghost use Rattle.flow.specs.Refusals.{numberOf, placeOf};
 ghost use Rattle.model.specs.Language.{stop};
 ghost use Rattle.text.specs.Split.{lines};
 ghost use Rattle.flow.specs.Read.{headOf, readRest, readFlow, fault};
 ghost use Rattle.flow.specs.Words.{count as counted, at};
 ghost use Rattle.flow.specs.Code.{row, rowOf, numbersIn, readingOf, rowsOf, noFlow};
-ghost use Rattle.flow.specs.Inner.{headIn, finished, HeadFits};
+ghost use Rattle.flow.specs.Inner.{headIn, maxNumbers, finished, HeadFits};
 use lines::Targets;
 
 // The kinds of instruction, by their words.
@@ -162,6 +163,10 @@ impl Flow {
     pub const MAX_OUTPUTS: u8 = 3;
 
     pub const MAX_VARIABLES: u8 = 4;
+    // The same two, for the lengths of arrays.
+    pub const TAPES: usize = Flow::MAX_TAPES as usize;
+
+    pub const VARIABLES: usize = Flow::MAX_VARIABLES as usize;
 
     pub const LEAST_CONSTANT: i32 = -1000;
 
@@ -251,7 +256,7 @@ impl Instruction {
 
     // The number in field k after the word.
     pub fn number(self, k: usize) -> i32
-        requires { ⌜ k < 4 ⌝ }
+        requires { ⌜ k < maxNumbers ⌝ }
         ensures { λ r. ⌜ r ≡ at (numbersIn self) k ⌝ }
     {
         if k == 0 {
@@ -268,7 +273,7 @@ impl Instruction {
 
     // The same, of a number that counts from 1.
     pub fn count(self, k: usize) -> usize
-        requires { ⌜ (k < 4) × (1 ≤ counted (at (numbersIn self) k)) ⌝ }
+        requires { ⌜ (k < maxNumbers) × (1 ≤ counted (at (numbersIn self) k)) ⌝ }
         ensures { λ r. ⌜ r ≡ counted (at (numbersIn self) k) ⌝ }
     {
         self.number(k) as usize
@@ -322,8 +327,8 @@ fn read_rest(text: &[u8], from: usize, head: Head) -> Reading
 
 // The flow of lines that are in order, if there are any and their targets are among them.
 fn finish(head: Head, count: usize, rows: [Instruction; Flow::MAX_INSTRUCTIONS]) -> Reading
-    requires { ⌜ count ≤ 64 ⌝ }
-    ensures { λ r. ⌜ (r ≡ finished head count rows) × (length rows ≡ 64) ⌝ }
+    requires { ⌜ count ≤ maxInstructions ⌝ }
+    ensures { λ r. ⌜ (r ≡ finished head count rows) × (length rows ≡ maxInstructions) ⌝ }
 {
     if count == 0 {
         return refused(Refusal::NoInstruction);

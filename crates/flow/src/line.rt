@@ -7,9 +7,11 @@ ghost use Rattle.text.specs.Split.{fields};
 ghost use Rattle.text.specs.Divided.{kept, Divided};
 ghost use Rattle.text.specs.Number.{numeral};
 ghost use Rattle.text.specs.Capped.{numberOf};
+ghost use Rattle.flow.specs.Limits.{maxInstructions};
 ghost use Rattle.flow.specs.Words.{sorts, mayMinus};
 ghost use Rattle.flow.specs.declared.Sort.the-variants.{Target};
 ghost use Rattle.flow.specs.Code.{row};
+ghost use Rattle.flow.specs.Inner.{maxNumbers};
 ghost use Rattle.flow.specs.Line.{smallIn, smallAt, begunIn, beginLine, endedIn, endLine};
 use crate::Flow;
 use crate::Head;
@@ -54,7 +56,7 @@ pub enum Begun {
 
 // The checks before the numbers after the word, on the line after `count` instructions.
 pub fn begin(line: &[u8], cut: Fields, count: usize) -> Begun
-    requires { ⌜ count ≤ 64 ⌝ }
+    requires { ⌜ count ≤ maxInstructions ⌝ }
     requires { ⌜ Divided (now line) (cut .count) (cut .ends) ⌝ }
     ensures { λ r. ⌜ begunIn r ≡ beginLine count (fields (now (line .entry))) ⌝ }
 {
@@ -76,7 +78,7 @@ pub fn begin(line: &[u8], cut: Fields, count: usize) -> Begun
 
 // The number in field k after the word.
 pub fn number_at(line: &[u8], cut: Fields, kind: Kind, k: usize) -> Number
-    requires { ⌜ Divided (now line) (cut .count) (cut .ends) × (k < 4) ⌝ }
+    requires { ⌜ Divided (now line) (cut .count) (cut .ends) × (k < maxNumbers) ⌝ }
     ensures { λ r. ⌜ r ≡ numberOf (numeral (mayMinus (getD (sorts kind) k Target)) (getD (fields (now (line .entry))) (k + 2) [])) ⌝ }
 {
     let minus = words::may_minus(words::sort_at(kind, k));
@@ -98,7 +100,7 @@ pub fn end(
     count: usize,
     head: Head,
 ) -> Ended
-    requires { ⌜ count ≤ 64 ⌝ }
+    requires { ⌜ count ≤ maxInstructions ⌝ }
     ensures { λ r. ⌜ endedIn r ≡ endLine head count number (row kind numbers) ⌝ }
 {
     if number as usize != count + 1 {

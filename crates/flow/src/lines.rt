@@ -5,6 +5,7 @@ ghost use Prim.Native.Nat.{_-_, _≤_};
 ghost use lib.ListN.{length, drop, take, replicate};
 ghost use Rattle.model.specs.Language.{stop};
 ghost use Rattle.text.specs.Split.{lines, fields};
+ghost use Rattle.flow.specs.Limits.{maxInstructions};
 ghost use Rattle.flow.specs.Read.{readHead, readLines, lostTarget};
 ghost use Rattle.flow.specs.Code.{rowOf, instructionOf};
 ghost use Rattle.flow.specs.Inner.{headIn, lostIn, linesIn, kept, HeadFits};
@@ -58,7 +59,7 @@ pub struct Lines {
 pub fn read_lines(text: &[u8], from: usize, head: Head) -> Lines
     requires { ⌜ (from ≤ length (now text)) × HeadFits head ⌝ }
     ensures { λ r. ⌜ linesIn r ≡ kept (readLines head 1 (lines (drop from (now (text .entry))))) ⌝ }
-    ensures { λ r. ⌜ (r .count ≤ 64) × (drop (r .count) (r .rows) ≡ replicate (64 - r .count) (rowOf stop)) ⌝ }
+    ensures { λ r. ⌜ (r .count ≤ maxInstructions) × (drop (r .count) (r .rows) ≡ replicate (maxInstructions - r .count) (rowOf stop)) ⌝ }
 {
     let mut rows = [Instruction::stop(); Flow::MAX_INSTRUCTIONS];
     let mut count: usize = 0;
@@ -101,7 +102,7 @@ pub enum Targets {
 }
 
 pub fn check_targets(rows: [Instruction; Flow::MAX_INSTRUCTIONS], count: usize) -> Targets
-    requires { ⌜ count ≤ 64 ⌝ }
+    requires { ⌜ count ≤ maxInstructions ⌝ }
     ensures { λ r. ⌜ lostIn r ≡ lostTarget count 2 (map instructionOf (take count rows)) ⌝ }
 {
     let mut i = 0;

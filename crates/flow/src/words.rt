@@ -6,7 +6,7 @@ ghost use Prim.Native.Nat.{_<_};
 ghost use lib.ListN.{length, getD};
 ghost use Rattle.text.specs.Split.{sameWord};
 ghost use Rattle.flow.specs.Words.{kindOf, sorts, mayMinus, branches};
-ghost use Rattle.flow.specs.Inner.{kindIn, four};
+ghost use Rattle.flow.specs.Inner.{kindIn, maxNumbers, four};
 ghost use Rattle.flow.specs.declared.Sort.the-variants.{Target};
 use crate::Instruction;
 use crate::Kind;
@@ -78,7 +78,7 @@ fn sorts_of(kind: Kind) -> [Sort; Instruction::MAX_NUMBERS]
 
 // What field k after the word names.
 pub fn sort_at(kind: Kind, k: usize) -> Sort
-    requires { ⌜ k < 4 ⌝ }
+    requires { ⌜ k < maxNumbers ⌝ }
     ensures { λ r. ⌜ r ≡ getD (sorts kind) k Target ⌝ }
 {
     let sorts = sorts_of(kind);

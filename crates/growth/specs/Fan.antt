@@ -7,6 +7,7 @@ use Prim.Native.Nat.{ℕ, _<_, _≤_}
 use lib.ListN.{length}
 use Rattle.model.specs.Machine.{Exit}
 use Rattle.graph.proofs.Table.{Table, Held}
+use Rattle.flow.specs.Limits.{maxVariables}
 use Rattle.configuration.specs.Pattern.{Width, low}
 use Rattle.configuration.specs.Step.{takeOf, memberOf, endedOf}
 use Rattle.configuration.specs.Graph.{Trial, Edge}
@@ -78,7 +79,7 @@ InFan w op x y = (opensOf op x ≡ true) × Member w (op .variable) (takeOf w op
 -- what fans need of the instruction and the words: a read names one of four variables, and the pattern's codes are those of values
 pub record Fine (w : ℕ) (op : Op) (x : Words) : Type 0 where
   pub width : Width w
-  pub lane : op .action ≡ Read → op .variable < 4
+  pub lane : op .action ≡ Read → op .variable < maxVariables
   pub valid : Valid w (x .pattern)
 
 -- visits that keep the marks

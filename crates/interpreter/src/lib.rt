@@ -13,6 +13,7 @@ ghost use Rattle.model.specs.Machine.{p-exit, m-exit};
 ghost use Rattle.flow.specs.Limits.{maxInstructions, maxVariables};
 ghost use Rattle.flow.specs.Words.{branches};
 ghost use Rattle.flow.specs.Code.{flowOf};
+ghost use Rattle.flow.specs.Inner.{maxNumbers};
 ghost use Rattle.flow.specs.Legal.{Legal};
 ghost use Rattle.flow.specs.declared.Kind.the-variants.{Read};
 ghost use Rattle.model.specs.Tapes.{total};
@@ -25,9 +26,9 @@ use flow::Refusal;
 use flow::words;
 
 // A value for each variable, a number for each tape, a count for each instruction.
-pub type Variables = [i32; Flow::MAX_VARIABLES as usize];
+pub type Variables = [i32; Flow::VARIABLES];
 
-pub type PerTape = [usize; Flow::MAX_TAPES as usize];
+pub type PerTape = [usize; Flow::TAPES];
 
 pub type PerInstruction = [u32; Flow::MAX_INSTRUCTIONS];
 
@@ -151,7 +152,7 @@ pub struct Onward {
 
 // On to N, in field k after the word.
 fn straight(x: Instruction, k: usize) -> Onward
-    requires { ⌜ (k < 4) × (1 ≤ countAt x k) ⌝ }
+    requires { ⌜ (k < maxNumbers) × (1 ≤ countAt x k) ⌝ }
     ensures { λ r. ⌜ r ≡ straightOn (countAt x k) ⌝ }
 {
     Onward {
@@ -298,7 +299,7 @@ fn run_from(
         ≡ written (valuesPut (heldRun flow cells limit (now (records .entry)) places ends)) (now (values .entry)) ⌝ }
 {
     let mut next: usize = 1;
-    let mut variables: Variables = [0; Flow::MAX_VARIABLES as usize];
+    let mut variables: Variables = [0; Flow::VARIABLES];
     let mut at = places;
     let mut p: PerInstruction = [0; Flow::MAX_INSTRUCTIONS];
     let mut m: PerInstruction = [0; Flow::MAX_INSTRUCTIONS];

@@ -2,7 +2,7 @@
 // gives the place behind them.
 ghost use mathlib.Core.Path.{_≡_};
 ghost use mathlib.Core.List.{[], _∷_, _++_};
-ghost use Prim.Native.Nat.{_+_, _≤_};
+ghost use Prim.Native.Nat.{_+_, _*_, _≤_};
 ghost use lib.ListN.{length};
 ghost use Rattle.text.specs.Write.{decimal, ended};
 ghost use Rattle.flow.specs.Limits.{maxInstructions};
@@ -18,6 +18,9 @@ use tape_maker::ReportEnd;
 pub const MAX_BYTES: usize = 4096;
 
 pub type Row = [u8; MAX_BYTES];
+
+// The cells that a report is made with.
+pub const CELLS: usize = 4096;
 
 fn copy(out: &mut [u8], at: usize, bytes: &[u8]) -> usize
     requires { ⌜ at + length (now bytes) ≤ length (now out) ⌝ }
@@ -62,7 +65,7 @@ fn distance(out: &mut [u8], at: usize, d: u32) -> usize
 
 // The line of an exit of instruction i: the exit is p or m, and d its distance.
 fn exit_line(out: &mut [u8], at: usize, i: usize, exit: u8, d: u32) -> usize
-    requires { ⌜ (at + 64 ≤ length (now out)) × (i ≤ 64) ⌝ }
+    requires { ⌜ (at + 64 ≤ length (now out)) × (i ≤ maxInstructions) ⌝ }
     ensures { λ r. ⌜ Put (exitLine i (exit ∷ []) d ++ (10 ∷ [])) (now (out .entry)) at (now (out .exit)) r × (r ≤ at + 16) ⌝ }
 {
     let a = number(out, at, i as u64);
@@ -73,7 +76,7 @@ fn exit_line(out: &mut [u8], at: usize, i: usize, exit: u8, d: u32) -> usize
 
 // The two lines of instruction i, if it has two exits.
 fn exit_lines(out: &mut [u8], at: usize, i: usize, two: bool, p: u32, m: u32) -> usize
-    requires { ⌜ (at + 96 ≤ length (now out)) × (i ≤ 64) ⌝ }
+    requires { ⌜ (at + 96 ≤ length (now out)) × (i ≤ maxInstructions) ⌝ }
     ensures { λ r. ⌜ Put (ended (exitLines i two p m)) (now (out .entry)) at (now (out .exit)) r × (r ≤ at + 32) ⌝ }
 {
     if two {
@@ -91,8 +94,8 @@ fn all_exits(
     p: [u32; Flow::MAX_INSTRUCTIONS],
     m: [u32; Flow::MAX_INSTRUCTIONS],
 ) -> usize
-    requires { ⌜ at + 2112 ≤ length (now out) ⌝ }
-    ensures { λ r. ⌜ Put (ended (linesFrom 0 maxInstructions two p m)) (now (out .entry)) at (now (out .exit)) r × (r ≤ at + 2048) ⌝ }
+    requires { ⌜ at + 32 * maxInstructions + 64 ≤ length (now out) ⌝ }
+    ensures { λ r. ⌜ Put (ended (linesFrom 0 maxInstructions two p m)) (now (out .entry)) at (now (out .exit)) r × (r ≤ at + 32 * maxInstructions) ⌝ }
 {
     let mut end = at;
     let mut i = 0;
@@ -142,12 +145,12 @@ pub fn report_text(r: ReportAnswer, out: &mut Row) -> usize
     }
 }
 
-// The report of a flow with 4,096 cells lent, as text.
+// The report of a flow with so many cells lent, as text.
 pub fn report_of(text: &[u8], out: &mut Row) -> usize
     ensures { λ n. ⌜ Printed (now (text .entry)) (now (out .entry)) (now (out .exit)) n ⌝ }
     ensures { λ n. ⌜ n ≤ length (now (out .exit)) ⌝ }
 {
-    let mut cells = [[0u32; Cell::WORDS]; 4096];
+    let mut cells = [[0u32; Cell::WORDS]; CELLS];
     let r = tape_maker::report(text, &mut cells);
     report_text(r, out)
 }

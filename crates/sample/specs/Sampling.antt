@@ -14,6 +14,7 @@ use Rattle.model.specs.Distance.{Distance}
 use Rattle.model.specs.Tapes.{total}
 use Rattle.model.proofs.Path.{Follows}
 use Rattle.model.proofs.Pad.{wider}
+use Rattle.flow.specs.Limits.{maxTapes, maxVariables}
 use Rattle.flow.specs.Legal.{Legal}
 use Rattle.configuration.specs.Op.{widthOf}
 use Rattle.configuration.specs.Place.{words, atOf, configurationOf}
@@ -90,7 +91,7 @@ pub record Ends (k : Course) (flow : Flow) (exit : Bool) : Type 0 where
 
 -- sizes of the three tapes' parts that leave room for the records of the way
 pub record Roomy (k : Course) (sizes : List ℕ) (cells : ℕ) : Type 0 where
-  pub three : length sizes ≡ 3
+  pub three : length sizes ≡ maxTapes
   pub room : (a : ℕ) → getD (readsAlong k (k .steps)) a 0 ≤ getD sizes a 0
   pub few : total sizes ≤ suc (k .steps)
   pub long : total sizes ≤ cells
@@ -100,9 +101,9 @@ pub record Following (k : Course) (flow : Flow) (sizes : List ℕ) (old : List �
   pub laid : Laid (k .lo) (k .hi) sizes walk row
   pub counts : walk .counts ≡ readsAlong k t
   pub reads : ℕ
-  pub follows : Follows (k .lo) (k .hi) (wider 3 4 flow) t reads (written walk row) (walk .values)
-      (configurationOf (k .lo) (k .w) (wider 3 4 flow) (wordsAlong k t))
-  pub proper : Proper (k .lo) (k .w) (wider 3 4 flow) (wordsAlong k t)
+  pub follows : Follows (k .lo) (k .hi) (wider maxTapes maxVariables flow) t reads (written walk row) (walk .values)
+      (configurationOf (k .lo) (k .w) (wider maxTapes maxVariables flow) (wordsAlong k t))
+  pub proper : Proper (k .lo) (k .w) (wider maxTapes maxVariables flow) (wordsAlong k t)
   pub size : length row ≡ length old
   pub beyond : drop (total sizes) row ≡ drop (total sizes) old
 

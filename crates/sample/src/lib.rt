@@ -2,19 +2,17 @@
 // records that its steps take are written into the lent row.
 ghost use mathlib.Core.Path.{_≡_};
 ghost use mathlib.Core.Bool.{true, _&&_};
-ghost use Prim.Native.Nat.{ℕ, suc, _-_, _≤_, _<_};
+ghost use Prim.Native.Nat.{ℕ, suc, _≤_, _<_};
 ghost use lib.ListN.{length, getD};
 ghost use Rattle.model.specs.Language.{Flow as FlowOf};
 ghost use Rattle.model.specs.Machine.{exitIf};
-ghost use Rattle.flow.specs.Limits.{maxInstructions};
-ghost use Rattle.configuration.specs.Place.{words, atOf};
+ghost use Rattle.configuration.specs.Place.{words};
 ghost use Rattle.configuration.specs.Pattern.{Width, laneOf, valueOf};
 ghost use Rattle.configuration.proofs.Span.{real};
 ghost use Rattle.tapes.specs.Moves.{Movable};
 ghost use Rattle.tapes.specs.Reading.{Ready};
 ghost use Rattle.cells.specs.Columns.{placeField, patternField, wayField, column, wordColumn, rowsOf};
 ghost use Rattle.cells.specs.Entries.{entriesOf};
-ghost use Rattle.table.specs.Passes.{Stands};
 ghost use Rattle.table.specs.Way.{placeOn, Passable, isRead, countedOf, readsOn};
 ghost use Rattle.sample.specs.Steps.{wishOf, takesRecord, termIn, quietWalk, walkTo, rowTo, lastRow, Fine, Low};
 ghost use Rattle.sample.specs.Sampling.{courseIn, Leads, Ends, Roomy, Following, WrittenBy, Tabled, NearestIs};
@@ -30,8 +28,6 @@ use flow::Flow;
 use flow::Refusal;
 use tapes::Walk;
 
-const TAPES: usize = Flow::MAX_TAPES as usize;
-
 // How a wish for a sample ends: with a sample, with none, since no tapes take the exit, or with a refusal.
 pub enum SampleEnd {
     Taken,
@@ -44,7 +40,7 @@ pub struct SampleAnswer {
     pub end: SampleEnd,
     pub distance: usize,
     pub tapes: usize,
-    pub lengths: [usize; TAPES],
+    pub lengths: [usize; Flow::TAPES],
 }
 
 // The value that a trial uses for the code of variable u.
@@ -59,7 +55,7 @@ fn wish_at(word: u64, w: u64, lo: i32, u: u8) -> i32
 }
 
 // Values of the pattern of a word.
-fn wish_of(word: u64, w: u64, lo: i32) -> [i32; 4]
+fn wish_of(word: u64, w: u64, lo: i32) -> [i32; Flow::VARIABLES]
     requires { ⌜ Width w ⌝ }
     requires { ⌜ Low lo ⌝ }
     ensures { λ r. ⌜ r ≡ wishOf lo w word ⌝ }
@@ -72,12 +68,12 @@ fn wish_of(word: u64, w: u64, lo: i32) -> [i32; 4]
 }
 
 // The value of term u: a variable, or the constant.
-fn term(values: [i32; 4], op: Op, lo: i32, u: u8) -> i32
+fn term(values: [i32; Flow::VARIABLES], op: Op, lo: i32, u: u8) -> i32
     requires { ⌜ Fine op ⌝ }
     requires { ⌜ Low lo ⌝ }
     ensures { λ r. ⌜ r ≡ termIn lo op values u ⌝ }
 {
-    if u < 4 {
+    if u < Flow::MAX_VARIABLES {
         return values[u as usize];
     }
     lo + op.constant as i32
@@ -166,21 +162,13 @@ fn last_read(row: &mut [i32], walk: Walk, op: Op, exit: bool, lo: i32, hi: i32)
     }
 }
 
-// The index, in an array by instruction, of the instruction at which a place word stands.
-fn index(place: u64) -> usize
-    requires { ⌜ Stands place ⌝ }
-    ensures { λ r. ⌜ (r ≡ atOf place - 1) × (r < maxInstructions) ⌝ }
-{
-    place::at(place) - 1
-}
-
 // The words at place t of a way.
 fn words_on(cells: &[[u32; Cell::WORDS]], t: usize) -> Words
     requires { ⌜ (t < length (now cells)) × (getD (column wayField (now cells)) t 0 < length (now cells)) ⌝ }
     ensures { λ r. ⌜ r ≡ words (placeOn (wordColumn placeField (now (cells .entry))) (column wayField (now (cells .entry))) t)
         (getD (wordColumn patternField (now (cells .entry))) (getD (column wayField (now (cells .entry))) t 0) 0) ⌝ }
 {
-    let k = table::wide(cells::get(cells, t, Cell::WAY));
+    let k = cells::wide(cells::get(cells, t, Cell::WAY));
     table::words_at(cells, k)
 }
 
@@ -191,15 +179,15 @@ fn sizes_of(
     ops: [Op; Flow::MAX_INSTRUCTIONS],
     op: Op,
     exit: bool,
-) -> [usize; TAPES]
+) -> [usize; Flow::TAPES]
     requires { ⌜ Passable (wordColumn placeField (now cells)) (column wayField (now cells)) steps ⌝ }
     ensures { λ r. ⌜ r ≡ countedOf (readsOn ops (wordColumn placeField (now (cells .entry))) (column wayField (now (cells .entry))) steps) op exit ⌝ }
 {
     let counts = table::reads(cells, ops, steps);
     let all = table::counted(counts, op, exit);
-    let a = table::wide(all[0]);
-    let b = table::wide(all[1]);
-    let c = table::wide(all[2]);
+    let a = cells::wide(all[0]);
+    let b = cells::wide(all[1]);
+    let c = cells::wide(all[2]);
     [a, b, c]
 }
 
@@ -211,7 +199,7 @@ fn write_steps(
     w: u64,
     lo: i32,
     hi: i32,
-    sizes: [usize; TAPES],
+    sizes: [usize; Flow::TAPES],
     row: &mut [i32],
 ) -> Walk
     requires { ⌜ ((flow : FlowOf) × Leads (courseIn (now cells) steps ops w lo hi) flow) ⌝ }
@@ -225,7 +213,7 @@ fn write_steps(
     let mut t = 0;
     while t < steps {
         let here = words_on(cells, t);
-        let i = index(here.place);
+        let i = table::index(here.place);
         let op = ops[i];
         t += 1;
         let next = words_on(cells, t);
@@ -244,7 +232,7 @@ fn write_sample(
     hi: i32,
     exit: bool,
     row: &mut [i32],
-) -> [usize; TAPES]
+) -> [usize; Flow::TAPES]
     requires { ⌜ ((flow : FlowOf) × Leads (courseIn (now cells) steps ops w lo hi) flow
         × Ends (courseIn (now cells) steps ops w lo hi) flow exit) ⌝ }
     requires { ⌜ suc steps ≤ length (now row) ⌝ }
@@ -254,7 +242,7 @@ fn write_sample(
         → WrittenBy (courseIn (now (cells .entry)) steps ops w lo hi) flow exit
         (now (row .entry)) (now (row .exit)) r) ⌝ }
 {
-    let i = index(table::place_on(cells, steps));
+    let i = table::index(table::place_on(cells, steps));
     let op = ops[i];
     let sizes = sizes_of(cells, steps, ops, op, exit);
     let walk = write_steps(cells, steps, ops, w, lo, hi, sizes, row);
@@ -270,7 +258,7 @@ pub fn without(end: SampleEnd) -> SampleAnswer
         end,
         distance: 0,
         tapes: 0,
-        lengths: [0; TAPES],
+        lengths: [0; Flow::TAPES],
     }
 }
 
@@ -298,7 +286,7 @@ fn sample_at(
         (exitIf exit) (Found.At k)
         → PickedIs flow tapes i (exitIf exit) (now (row .entry)) (now (row .exit)) r (r .end)) ⌝ }
 {
-    let d = table::wide(cells::get(cells, k, Cell::DISTANCE));
+    let d = cells::wide(cells::get(cells, k, Cell::DISTANCE));
     if row.len() <= d {
         return without(SampleEnd::Refused(Refusal::ShortRow));
     }

@@ -2,6 +2,7 @@
 // says `taken` if the run of the sample takes the exit with the last of that many steps and not before, and reads all records of the
 // sample, and if the rest of the row is as it was. The flows, and the answers in stdout, are made by tests/reports.py.
 ghost use Prim.Native.Nat.{_<_};
+ghost use Rattle.flow.specs.Limits.{maxInstructions};
 use flow::Flow;
 use flow::Instruction;
 use flow::Kind;
@@ -12,6 +13,9 @@ use tape_maker::SampleEnd;
 
 // The cells of the record row before a sample is asked for; no record of a sample is so large.
 const BLANK: i32 = 77777;
+
+// The work cells, and the cells of the record row and of the output rows.
+const CELLS: usize = 4096;
 
 // Whether the cells of a row from one on are blank.
 fn blank_from(row: &[i32], from: usize) -> bool {
@@ -26,17 +30,17 @@ fn blank_from(row: &[i32], from: usize) -> bool {
 }
 
 fn ask(text: &[u8], i: usize, p: bool, row: &mut [i32]) -> SampleAnswer {
-    let mut cells = [[0u32; Cell::WORDS]; 4096];
+    let mut cells = [[0u32; Cell::WORDS]; CELLS];
     tape_maker::sample(text, i, p, &mut cells, row)
 }
 
 fn run(text: &[u8], limit: u64, records: &[i32], lengths: &[usize]) -> RunAnswer {
-    let mut numbers = [0u8; 4096];
-    let mut values = [0i32; 4096];
+    let mut numbers = [0u8; CELLS];
+    let mut values = [0i32; CELLS];
     tape_maker::run(text, limit, records, lengths, &mut numbers, &mut values)
 }
 
-fn is_read(x: Instruction) -> bool {
+fn reads_tape(x: Instruction) -> bool {
     let kind = x.kind;
     match kind {
         Kind::Read => true,
@@ -51,7 +55,7 @@ fn reads_all(f: Flow, ran: RunAnswer, records: u64) -> bool {
     let mut i = 0;
     while i < Flow::MAX_INSTRUCTIONS {
         let x = f.instructions[i];
-        if is_read(x) {
+        if reads_tape(x) {
             let n = p[i] as u64;
             if left < n {
                 return false;
@@ -148,9 +152,9 @@ fn print_end(p: bool, yes: &[u8], no: &[u8]) {
 
 // The line of an exit of instruction i + 1; no line where the instruction has no two exits.
 fn print_sample(text: &[u8], f: Flow, i: usize, p: bool)
-    requires { ⌜ i < 64 ⌝ }
+    requires { ⌜ i < maxInstructions ⌝ }
 {
-    let mut row = [BLANK; 4096];
+    let mut row = [BLANK; CELLS];
     let a = ask(text, i + 1, p, &mut row);
     let end = a.end;
     match end {

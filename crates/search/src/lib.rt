@@ -13,6 +13,7 @@ use cells::Cell;
 use configuration::Op;
 use configuration::Words;
 use configuration::place;
+use flow::Flow;
 use growth::Grown;
 
 // What a search answers: the number of entries.
@@ -51,7 +52,12 @@ fn expand(
 }
 
 // Expands entries until none is left or no cell is. Instruction number i is ops[i - 1]; a number that names none stops.
-fn walk(cells: &mut [[u32; Cell::WORDS]], size: usize, ops: [Op; 64], w: u64) -> Searched
+fn walk(
+    cells: &mut [[u32; Cell::WORDS]],
+    size: usize,
+    ops: [Op; Flow::MAX_INSTRUCTIONS],
+    w: u64,
+) -> Searched
     requires { ⌜ ((s : Subject w ops) × Exploring (s .lo) w (s .flow)
         (rowsOf (now cells)) 1 size 0) ⌝ }
     ensures { λ r. ⌜ ((s : Subject w ops) → Exploring (s .lo) w (s .flow)
@@ -64,7 +70,7 @@ fn walk(cells: &mut [[u32; Cell::WORDS]], size: usize, ops: [Op; 64], w: u64) ->
     while k < n {
         let i = (place::at(cells::word(cells, k, Cell::PLACE)) + 127) % 128;
         let mut op = Op::stop();
-        if i < 64 {
+        if i < Flow::MAX_INSTRUCTIONS {
             op = ops[i];
         }
         let g = expand(cells, n, size, k, op, w);
@@ -78,7 +84,12 @@ fn walk(cells: &mut [[u32; Cell::WORDS]], size: usize, ops: [Op; 64], w: u64) ->
 }
 
 // Everything that the flow reaches from its start. Where the cells are too few they are not zeroed here.
-pub fn search(cells: &mut [[u32; Cell::WORDS]], ops: [Op; 64], w: u64, start: Words) -> Searched
+pub fn search(
+    cells: &mut [[u32; Cell::WORDS]],
+    ops: [Op; Flow::MAX_INSTRUCTIONS],
+    w: u64,
+    start: Words,
+) -> Searched
     requires { ⌜ ((s : Subject w ops) × (start ≡ startOf (s .lo))) ⌝ }
     ensures { λ r. ⌜ ((s : Subject w ops) → start ≡ startOf (s .lo)
         → SearchedIs (s .lo) w (s .flow)

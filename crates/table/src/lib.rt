@@ -8,6 +8,7 @@ ghost use Prim.Native.Nat.{_+_, _≤_, _<_};
 ghost use lib.ListN.{length, getD};
 ghost use lib.Dec.{eqb};
 ghost use Rattle.model.specs.Machine.{p-exit, m-exit, exitIf};
+ghost use Rattle.flow.specs.Limits.{maxInstructions};
 ghost use Rattle.configuration.specs.Inner.{Below};
 ghost use Rattle.configuration.specs.Pattern.{Width};
 ghost use Rattle.configuration.specs.Place.{atOf};
@@ -24,9 +25,6 @@ use configuration::Op;
 use configuration::Words;
 use configuration::place;
 use flow::Flow;
-
-// The tapes of a way; those that a flow does not have yield no records.
-const TAPES: usize = Flow::MAX_TAPES as usize;
 
 // The distances of the exits p and m of every instruction, that of instruction i at i - 1; 0 for none.
 pub struct Distances {
@@ -46,9 +44,9 @@ pub fn words_at(cells: &[[u32; Cell::WORDS]], k: usize) -> Words
 }
 
 // The index, in an array by instruction, of the instruction at which a place word stands.
-fn index(place: u64) -> usize
+pub fn index(place: u64) -> usize
     requires { ⌜ Stands place ⌝ }
-    ensures { λ r. ⌜ (atOf place ≡ r + 1) × (r < 64) ⌝ }
+    ensures { λ r. ⌜ (atOf place ≡ r + 1) × (r < maxInstructions) ⌝ }
 {
     place::at(place) - 1
 }
@@ -168,7 +166,7 @@ pub fn is_read(action: Action) -> bool
 }
 
 // Counts the record, if any, that a step of op takes; `taken` if it takes exit p.
-pub fn counted(counts: [u32; TAPES], op: Op, taken: bool) -> [u32; TAPES]
+pub fn counted(counts: [u32; Flow::TAPES], op: Op, taken: bool) -> [u32; Flow::TAPES]
     requires { ⌜ Below 4294967295 counts ⌝ }
     ensures { λ r. ⌜ r ≡ countedOf counts op taken ⌝ }
 {
@@ -180,19 +178,12 @@ pub fn counted(counts: [u32; TAPES], op: Op, taken: bool) -> [u32; TAPES]
         return counts;
     }
     let a = op.tape as usize;
-    if TAPES <= a {
+    if Flow::TAPES <= a {
         return counts;
     }
     let mut more = counts;
     more[a] = more[a] + 1;
     more
-}
-
-// The number of a cell, as a cell holds it.
-pub fn wide(x: u32) -> usize
-    ensures { λ r. ⌜ r ≡ x ⌝ }
-{
-    x as usize
 }
 
 // The place word of the entry that stands at place t of a way.
@@ -201,20 +192,21 @@ pub fn place_on(cells: &[[u32; Cell::WORDS]], t: usize) -> u64
     requires { ⌜ getD (column wayField (now cells)) t 0 < length (now cells) ⌝ }
     ensures { λ r. ⌜ r ≡ placeOn (wordColumn placeField (now (cells .entry))) (column wayField (now (cells .entry))) t ⌝ }
 {
-    let k = wide(cells::get(cells, t, Cell::WAY));
+    let k = cells::wide(cells::get(cells, t, Cell::WAY));
     cells::word(cells, k, Cell::PLACE)
 }
 
-// How many records of each tape the steps of a way take, without the step that its last entry takes.
+// How many records of each tape the steps of a way take, without the step that its last entry takes; a tape that the flow does not have
+// yields none.
 pub fn reads(
     cells: &[[u32; Cell::WORDS]],
     ops: [Op; Flow::MAX_INSTRUCTIONS],
     last: usize,
-) -> [u32; TAPES]
+) -> [u32; Flow::TAPES]
     requires { ⌜ Passable (wordColumn placeField (now cells)) (column wayField (now cells)) last ⌝ }
     ensures { λ r. ⌜ r ≡ readsOn ops (wordColumn placeField (now (cells .entry))) (column wayField (now (cells .entry))) last ⌝ }
 {
-    let mut counts: [u32; TAPES] = [0; TAPES];
+    let mut counts: [u32; Flow::TAPES] = [0; Flow::TAPES];
     let mut t = 0;
     while t < last {
         let i = index(place_on(cells, t));

@@ -39,7 +39,7 @@ pub fn run(
     let answer = reading.answer;
     let flow = reading.flow;
     match answer {
-        Answer::Refused(r) => running::refused(r),
+        Answer::Refused(r) => running::run_refused(r),
         Answer::Legal => running::run_flow(flow, limit, records, lengths, numbers, values),
     }
 }

@@ -1,5 +1,6 @@
 // What a search needs of a flow.
 ghost use Prim.Native.Nat.{_≤_};
+ghost use Rattle.flow.specs.Limits.{maxInstructions};
 ghost use Rattle.flow.specs.Code.{flowOf};
 ghost use Rattle.flow.specs.Legal.{Legal};
 ghost use Rattle.configuration.specs.Op.{opOf};
@@ -26,7 +27,7 @@ fn prepare(
     count: usize,
     lo: i32,
 ) -> [Op; Flow::MAX_INSTRUCTIONS]
-    requires { ⌜ (count ≤ 64) × AllFitBytes instructions count ⌝ }
+    requires { ⌜ (count ≤ maxInstructions) × AllFitBytes instructions count ⌝ }
     ensures { λ r. ⌜ Each (opOf lo) blank instructions count r ⌝ }
 {
     let mut ops = [Op::stop(); Flow::MAX_INSTRUCTIONS];
@@ -40,7 +41,7 @@ fn prepare(
 
 // The plan of a legal flow.
 pub fn plan_of(flow: Flow) -> Plan
-    requires { ⌜ Legal (flowOf flow) × (flow .count ≤ 64) ⌝ }
+    requires { ⌜ Legal (flowOf flow) × (flow .count ≤ maxInstructions) ⌝ }
     ensures { λ r. ⌜ Planned (flowOf flow) r ⌝ }
 {
     let range = constants::range_of(flow);

@@ -3,6 +3,7 @@ ghost use mathlib.Core.Path.{_≡_};
 ghost use mathlib.Core.Bool.{false};
 ghost use Prim.Native.Nat.{_≤_};
 ghost use Rattle.model.specs.Language.{hasExits};
+ghost use Rattle.flow.specs.Limits.{maxInstructions};
 ghost use Rattle.flow.specs.Code.{flowOf};
 ghost use Rattle.flow.specs.Legal.{Legal};
 ghost use Rattle.flow.specs.Read.{readFlow};
@@ -32,7 +33,7 @@ pub fn is_refusal(end: ReportEnd) -> bool
 }
 
 // The answer for a refusal.
-fn refused(r: Refusal) -> ReportAnswer
+fn report_refused(r: Refusal) -> ReportAnswer
     ensures { λ a. ⌜ a ≡ refusal r ⌝ }
 {
     ReportAnswer {
@@ -58,7 +59,7 @@ fn twos(
     instructions: [Instruction; Flow::MAX_INSTRUCTIONS],
     count: usize,
 ) -> [bool; Flow::MAX_INSTRUCTIONS]
-    requires { ⌜ count ≤ 64 ⌝ }
+    requires { ⌜ count ≤ maxInstructions ⌝ }
     ensures { λ r. ⌜ Each hasExits false instructions count r ⌝ }
 {
     let mut two = [false; Flow::MAX_INSTRUCTIONS];
@@ -77,7 +78,7 @@ fn given(
     n: usize,
     d: Distances,
 ) -> ReportAnswer
-    requires { ⌜ count ≤ 64 ⌝ }
+    requires { ⌜ count ≤ maxInstructions ⌝ }
     ensures { λ r. ⌜ GivenIs instructions count n d r ⌝ }
 {
     let p = d.p;
@@ -94,7 +95,7 @@ fn given(
 
 // The report of a legal flow, or the refusal for want of cells.
 fn report_flow(flow: Flow, cells: &mut [[u32; Cell::WORDS]]) -> ReportAnswer
-    requires { ⌜ Legal (flowOf flow) × (flow .count ≤ 64) ⌝ }
+    requires { ⌜ Legal (flowOf flow) × (flow .count ≤ maxInstructions) ⌝ }
     ensures { λ r. ⌜ FlowReport (flowOf flow) (cellsOf (now (cells .entry))) r (r .end) ⌝ }
 {
     let plan = planning::plan_of(flow);
@@ -103,7 +104,7 @@ fn report_flow(flow: Flow, cells: &mut [[u32; Cell::WORDS]]) -> ReportAnswer
     let start = plan.start;
     let found = search::search(cells, ops, w, start);
     match found {
-        Searched::Full => refused(Refusal::TooFewCells),
+        Searched::Full => report_refused(Refusal::TooFewCells),
         Searched::Done(n) => {
             let d = table::exits(cells, n, ops, w);
             let instructions = flow.instructions;
@@ -121,7 +122,7 @@ pub fn answer(text: &[u8], cells: &mut [[u32; Cell::WORDS]]) -> ReportAnswer
     let answer = reading.answer;
     let flow = reading.flow;
     match answer {
-        Answer::Refused(why) => refused(why),
+        Answer::Refused(why) => report_refused(why),
         Answer::Legal => report_flow(flow, cells),
     }
 }

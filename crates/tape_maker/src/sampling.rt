@@ -2,6 +2,7 @@
 ghost use mathlib.Core.Path.{_≡_};
 ghost use Prim.Native.Nat.{_≤_};
 ghost use Rattle.model.specs.Machine.{exitIf};
+ghost use Rattle.flow.specs.Limits.{maxInstructions};
 ghost use Rattle.flow.specs.Code.{flowOf};
 ghost use Rattle.flow.specs.Legal.{Legal};
 ghost use Rattle.flow.specs.Read.{readFlow};
@@ -33,7 +34,7 @@ pub fn is_refusal(end: SampleEnd) -> bool
 
 // Whether instruction number i exists and has two exits.
 fn has_exits(instructions: [Instruction; Flow::MAX_INSTRUCTIONS], count: usize, i: usize) -> bool
-    requires { ⌜ count ≤ 64 ⌝ }
+    requires { ⌜ count ≤ maxInstructions ⌝ }
     ensures { λ r. ⌜ r ≡ exitsAt instructions count i ⌝ }
 {
     if i == 0 {
@@ -55,7 +56,7 @@ fn sample_flow(
     cells: &mut [[u32; Cell::WORDS]],
     row: &mut [i32],
 ) -> SampleAnswer
-    requires { ⌜ Legal (flowOf flow) × (flow .count ≤ 64) ⌝ }
+    requires { ⌜ Legal (flowOf flow) × (flow .count ≤ maxInstructions) ⌝ }
     ensures { λ r. ⌜ Answered (flowOf flow) instruction (exitIf exit) (cellsOf (now (cells .entry))) (now (row .entry)) (now (row .exit)) r (r .end) ⌝ }
 {
     let instructions = flow.instructions;

@@ -10,6 +10,7 @@ use lib.ListN.{length}
 use Rattle.model.specs.Sample.{Near}
 use Rattle.model.proofs.Lists.{All}
 use Rattle.model.specs.Tapes.{total}
+use Rattle.flow.specs.Limits.{maxTapes, maxVariables}
 use Rattle.tapes.specs.Layout.{Laid}
 use Rattle.tapes.specs.Reading.{written}
 use Rattle.tapes.specs.declared.Walk.{Walk}
@@ -32,5 +33,5 @@ pub record Fit (lo hi : ℤ) (sizes : List ℕ) (walk : Walk) (row : List ℤ) :
   pub long : total sizes ≤ length row
   pub near : All (All (Near lo hi (total (walk .counts)))) (written walk row)
   pub values-near : All (Near lo hi (total (walk .counts))) (walk .values)
-  pub three : length (walk .starts) ≡ 3
-  pub four : length (walk .values) ≡ 4
+  pub three : length (walk .starts) ≡ maxTapes
+  pub four : length (walk .values) ≡ maxVariables

@@ -6,6 +6,7 @@ use lib.IntN.{ℤ, pos}
 use lib.ListN.{length, getD, set, replicate}
 use Rattle.model.proofs.Lists.{All}
 use Rattle.model.proofs.View.{View, reads, sets, tests, goes, stops, term}
+use Rattle.flow.specs.Limits.{maxTapes, maxVariables}
 use Rattle.tapes.specs.Moves.{moved, Movable}
 use Rattle.tapes.specs.Layout.{tapesAt, onParts, Apart}
 use Rattle.tapes.specs.Choices.{moveOf, recordOf}
@@ -16,8 +17,8 @@ use Rattle.tapes.specs.declared.Walk.{Walk}
 -- nothing written, every value 0, the parts of the sizes one after another
 abbrev pub firstWalk : (sizes : List ℕ) → Walk
 firstWalk sizes = record {
-  values = replicate 4 (pos 0);
-  counts = replicate 3 0;
+  values = replicate maxVariables (pos 0);
+  counts = replicate maxTapes 0;
   starts = 0 ∷ getD sizes 0 0 ∷ (getD sizes 0 0 + getD sizes 1 0) ∷ [];
 }
 
@@ -58,8 +59,8 @@ silentAfter w walk = record { values = valuesAfter w (walk .values); counts = wa
 
 -- what the read asks: there is a cell for the record, and all numbers may move by one
 pub record Ready (walk : Walk) (a u : ℕ) (row : List ℤ) : Type 0 where
-  pub tape : a < 3
-  pub variable : u < 4
+  pub tape : a < maxTapes
+  pub variable : u < maxVariables
   pub apart : Apart 0 (walk .starts) (walk .counts) (length row)
   pub records : All (All Movable) (written walk row)
   pub values : All Movable (walk .values)

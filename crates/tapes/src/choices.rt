@@ -4,10 +4,12 @@ ghost use mathlib.Core.Bool.{cond, _&&_};
 ghost use Prim.Native.Nat.{_<_};
 ghost use Rattle.model.specs.Pattern.{equal};
 ghost use Rattle.model.proofs.Room.{furthest as furthestOf};
+ghost use Rattle.flow.specs.Limits.{maxVariables};
 ghost use Rattle.tapes.specs.Moves.{further as furtherOf};
 ghost use Rattle.tapes.specs.Choices.{firstAt, chooseBeyond, choose as chooseOf, chosen, recordOf, Safe};
 use crate::Choice;
 use crate::moves;
+use flow::Flow;
 
 // The further of m and b, if a lies before y; else m.
 fn pick(up: bool, y: i32, a: i32, b: i32, m: i32) -> i32
@@ -23,12 +25,18 @@ fn pick(up: bool, y: i32, a: i32, b: i32, m: i32) -> i32
 }
 
 // The furthest of the edge and the values whose wish lies before y.
-fn furthest(up: bool, edge: i32, y: i32, wish: [i32; 4], values: [i32; 4]) -> i32
+fn furthest(
+    up: bool,
+    edge: i32,
+    y: i32,
+    wish: [i32; Flow::VARIABLES],
+    values: [i32; Flow::VARIABLES],
+) -> i32
     ensures { λ r. ⌜ r ≡ furthestOf (furtherOf up) edge y wish values ⌝ }
 {
     let mut m = edge;
     let mut i = 0;
-    while i < 4 {
+    while i < Flow::VARIABLES {
         let a = wish[i];
         let b = values[i];
         m = pick(up, y, a, b, m);
@@ -46,27 +54,33 @@ fn same(x: i32, y: i32) -> bool
     !(y < x)
 }
 
-// The first place of y in the wish, or 4.
-fn first_at(y: i32, wish: [i32; 4]) -> usize
+// The first place of y in the wish, or one past its last.
+fn first_at(y: i32, wish: [i32; Flow::VARIABLES]) -> usize
     ensures { λ r. ⌜ r ≡ firstAt 0 y wish ⌝ }
 {
     let mut i = 0;
-    while i < 4 {
+    while i < Flow::VARIABLES {
         let x = wish[i];
         if same(x, y) {
             return i;
         }
         i += 1;
     }
-    4
+    Flow::VARIABLES
 }
 
 // The choice for a wish y beyond the edge.
-fn choose_beyond(up: bool, edge: i32, y: i32, wish: [i32; 4], values: [i32; 4]) -> Choice
+fn choose_beyond(
+    up: bool,
+    edge: i32,
+    y: i32,
+    wish: [i32; Flow::VARIABLES],
+    values: [i32; Flow::VARIABLES],
+) -> Choice
     ensures { λ r. ⌜ r ≡ chooseBeyond up edge y wish values ⌝ }
 {
     let i = first_at(y, wish);
-    if i < 4 {
+    if i < Flow::VARIABLES {
         let x = values[i];
         return Choice::Take(x);
     }
@@ -75,7 +89,13 @@ fn choose_beyond(up: bool, edge: i32, y: i32, wish: [i32; 4], values: [i32; 4]) 
 }
 
 // The choice for a wish y, beside the wishes and values of the other variables.
-fn choose(lo: i32, hi: i32, y: i32, wish: [i32; 4], values: [i32; 4]) -> Choice
+fn choose(
+    lo: i32,
+    hi: i32,
+    y: i32,
+    wish: [i32; Flow::VARIABLES],
+    values: [i32; Flow::VARIABLES],
+) -> Choice
     ensures { λ r. ⌜ r ≡ chooseOf lo hi y wish values ⌝ }
 {
     if hi < y {
@@ -88,8 +108,14 @@ fn choose(lo: i32, hi: i32, y: i32, wish: [i32; 4], values: [i32; 4]) -> Choice
 }
 
 // The choice for variable v.
-pub fn choice_for(lo: i32, hi: i32, wish: [i32; 4], values: [i32; 4], v: usize) -> Choice
-    requires { ⌜ v < 4 ⌝ }
+pub fn choice_for(
+    lo: i32,
+    hi: i32,
+    wish: [i32; Flow::VARIABLES],
+    values: [i32; Flow::VARIABLES],
+    v: usize,
+) -> Choice
+    requires { ⌜ v < maxVariables ⌝ }
     ensures { λ r. ⌜ r ≡ chosen lo hi wish values v ⌝ }
 {
     let y = wish[v];

@@ -18,6 +18,7 @@ ghost use Rattle.tapes.specs.Layout.{tapesAt, Apart};
 ghost use Rattle.tapes.specs.Choices.{chosen, moveOf, Safe};
 ghost use Rattle.tapes.specs.Reading.{firstWalk, roomed, walkAfter, rowAfter, Ready};
 ghost use Rattle.tapes.specs.Fit.{mostRecords};
+use flow::Flow;
 
 // What a read gets: a number that needs no room, or the number next to m, outward; then the numbers beyond m move.
 pub enum Choice {
@@ -28,9 +29,9 @@ pub enum Choice {
 // What is held while a sample is written: the values of the variables, how many records each tape has so far, and the cell where
 // its part of the row starts.
 pub struct Walk {
-    pub values: [i32; 4],
-    pub counts: [usize; 3],
-    pub starts: [usize; 3],
+    pub values: [i32; Flow::VARIABLES],
+    pub counts: [usize; Flow::TAPES],
+    pub starts: [usize; Flow::TAPES],
 }
 
 // A part of a row: the cell where it starts, and how many records it holds.
@@ -40,14 +41,14 @@ pub struct Span {
 }
 
 // The start: nothing is written, every variable is 0, and the part of each tape has as many cells as its size.
-pub fn first_walk(sizes: [usize; 3]) -> Walk
+pub fn first_walk(sizes: [usize; Flow::TAPES]) -> Walk
     requires { ⌜ total sizes ≤ mostRecords ⌝ }
     ensures { λ r. ⌜ r ≡ firstWalk sizes ⌝ }
 {
     let first = sizes[0];
     let second = sizes[1];
-    let values = [0; 4];
-    let counts = [0; 3];
+    let values = [0; Flow::VARIABLES];
+    let counts = [0; Flow::TAPES];
     let starts = [0, first, first + second];
     Walk {
         values,
@@ -57,7 +58,12 @@ pub fn first_walk(sizes: [usize; 3]) -> Walk
 }
 
 // Room for the record among those written so far.
-fn make_room(row: &mut [i32], starts: [usize; 3], counts: [usize; 3], choice: Choice)
+fn make_room(
+    row: &mut [i32],
+    starts: [usize; Flow::TAPES],
+    counts: [usize; Flow::TAPES],
+    choice: Choice,
+)
     requires { ⌜ Apart 0 starts counts (length (now row)) × All (All Movable) (tapesAt starts counts (now row)) ⌝ }
     ensures { λ _. ⌜ now (row .exit) ≡ roomed choice starts counts (now (row .entry)) ⌝ }
 {
@@ -68,7 +74,7 @@ fn make_room(row: &mut [i32], starts: [usize; 3], counts: [usize; 3], choice: Ch
 }
 
 // Room for it among the values.
-fn moved_values(choice: Choice, values: [i32; 4]) -> [i32; 4]
+fn moved_values(choice: Choice, values: [i32; Flow::VARIABLES]) -> [i32; Flow::VARIABLES]
     requires { ⌜ All Movable values ⌝ }
     ensures { λ r. ⌜ r ≡ map (moveOf choice) values ⌝ }
 {
@@ -125,7 +131,7 @@ pub fn read_one(
     walk: Walk,
     lo: i32,
     hi: i32,
-    wish: [i32; 4],
+    wish: [i32; Flow::VARIABLES],
     a: usize,
     v: usize,
 ) -> Walk

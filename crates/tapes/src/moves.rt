@@ -6,6 +6,7 @@ ghost use lib.ListN.{length, take, drop};
 ghost use Rattle.model.proofs.Lists.{All};
 ghost use Rattle.tapes.specs.Moves.{further as furtherOf, outward as outwardOf, moved, Movable};
 ghost use Rattle.tapes.specs.Layout.{tapesAt, onPart, onParts, Apart};
+use flow::Flow;
 
 // Does y lie further out than x?
 pub fn further(up: bool, x: i32, y: i32) -> bool
@@ -62,12 +63,18 @@ fn shift_part(row: &mut [i32], s: usize, k: usize, up: bool, m: i32)
 }
 
 // The records of all tapes.
-pub fn shift_all(row: &mut [i32], starts: [usize; 3], counts: [usize; 3], up: bool, m: i32)
+pub fn shift_all(
+    row: &mut [i32],
+    starts: [usize; Flow::TAPES],
+    counts: [usize; Flow::TAPES],
+    up: bool,
+    m: i32,
+)
     requires { ⌜ Apart 0 starts counts (length (now row)) × All (All Movable) (tapesAt starts counts (now row)) ⌝ }
     ensures { λ _. ⌜ now (row .exit) ≡ onParts (moved up m) starts counts (now (row .entry)) ⌝ }
 {
     let mut a = 0;
-    while a < 3 {
+    while a < Flow::TAPES {
         let s = starts[a];
         let k = counts[a];
         shift_part(row, s, k, up, m);

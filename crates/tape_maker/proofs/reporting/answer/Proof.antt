@@ -16,7 +16,7 @@ report-flow-requires c κs = let l = legal (c .before) in (l .legal, l .few)
 returns : tie.Need-returns
 returns c =
     let answer = c .before .before in
-    report-refused _ _ (read-fault _ _ _ (answer .before .before .before .read .ensures) (answer .answer .given .1)) (c .refused .ensures)
+    report-refused _ _ (read-fault _ _ _ (answer .before .before .before .read .ensures) (answer .answer .given .1)) (c .report-refused .ensures)
 
 returns-2 : tie.Need-returns-2
 returns-2 c = let made = c .before in report-searched _ _ (legal (made .before .before) .read) (made .report-flow .ensures)

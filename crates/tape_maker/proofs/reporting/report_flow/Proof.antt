@@ -34,7 +34,7 @@ returns c =
     let s = told .before .before .before in
     let plan = s .before .before .before .before in
     full-searched (plan .before .args .flow) (plan .plan-of .ensures) (plan .before .pre .1) _ _
-    (search-full (plan .plan-of .ensures) _ (s .search .ensures) (told .enum-told .given .1)) (c .refused .ensures)
+    (search-full (plan .plan-of .ensures) _ (s .search .ensures) (told .enum-told .given .1)) (c .report-refused .ensures)
 
 returns-2 : tie.Need-returns-2
 returns-2 c =
