@@ -15,20 +15,15 @@ LINKED = $(RUSTC) --edition 2021 -C opt-level=3 -L native=target/staticlib -l st
 
 .PHONY: report program test lib examples outside bench
 
-# Only what is proved is built, so the first time takes some minutes.
-define proved
-@mkdir -p target
-@$(1) > target/make.log 2>&1 || { cat target/make.log; exit 1; }
-endef
-
 report: program
 	@target/bin/report < $(FLOW)
 
+# Only what is proved is built, so the first time takes some minutes.
 program:
-	$(call proved,rt check report)
+	@tools/proving check report
 
 lib:
-	$(call proved,rt staticlib tilsando)
+	@tools/proving staticlib tilsando
 	@echo target/staticlib/libtilsando.a
 
 examples: lib
