@@ -3,6 +3,7 @@
 # make lib                        the static library for C and Rust: target/staticlib/libtilsando.a
 # make examples                   builds and runs the makers' programs in C and in Rust
 # make outside SEED=1             library and program against a second implementation, on generated texts, tapes and samples
+# make inputs                     the program on inputs that come in pieces, and that cannot be read
 # make bench                      the library against plain Rust: the tables of docs/BENCHMARKS.md
 # make bench BEFORE=old.a         the same, and against an older library with the same interface
 
@@ -13,7 +14,7 @@ CC ?= cc
 RUSTC ?= rustc
 LINKED = $(RUSTC) --edition 2021 -C opt-level=3 -L native=target/staticlib -l static=tilsando
 
-.PHONY: report program test lib examples outside bench
+.PHONY: report program test lib examples outside inputs bench
 
 report: program
 	@target/bin/report < $(FLOW)
@@ -25,6 +26,9 @@ program:
 lib:
 	@tools/proving staticlib tilsando
 	@echo target/staticlib/libtilsando.a
+
+inputs: program
+	@python3 tests/inputs.py target/bin/report
 
 examples: lib
 	@tools/examples "$(CC)" "$(RUSTC)"
