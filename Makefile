@@ -52,4 +52,5 @@ test:
 	@rt fmt --check
 	@python3 tests/readings.py
 	@python3 tests/reports.py
+	@tests/gate.sh
 	@tools/gate
