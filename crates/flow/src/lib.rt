@@ -163,7 +163,7 @@ impl Flow {
     pub const MAX_OUTPUTS: u8 = 3;
 
     pub const MAX_VARIABLES: u8 = 4;
-    // The same two, for the lengths of arrays.
+    // Tapes and variables again, for the lengths of arrays.
     pub const TAPES: usize = Flow::MAX_TAPES as usize;
 
     pub const VARIABLES: usize = Flow::MAX_VARIABLES as usize;

@@ -145,7 +145,7 @@ pub fn report_text(r: ReportAnswer, out: &mut Row) -> usize
     }
 }
 
-// The report of a flow with so many cells lent, as text.
+// The report of a flow with `CELLS` cells lent, as text.
 pub fn report_of(text: &[u8], out: &mut Row) -> usize
     ensures { λ n. ⌜ Printed (now (text .entry)) (now (out .entry)) (now (out .exit)) n ⌝ }
     ensures { λ n. ⌜ n ≤ length (now (out .exit)) ⌝ }

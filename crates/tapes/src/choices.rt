@@ -8,6 +8,7 @@ ghost use Rattle.flow.specs.Limits.{maxVariables};
 ghost use Rattle.tapes.specs.Moves.{further as furtherOf};
 ghost use Rattle.tapes.specs.Choices.{firstAt, chooseBeyond, choose as chooseOf, chosen, recordOf, Safe};
 use crate::Choice;
+use crate::Values;
 use crate::moves;
 use flow::Flow;
 
@@ -25,13 +26,7 @@ fn pick(up: bool, y: i32, a: i32, b: i32, m: i32) -> i32
 }
 
 // The furthest of the edge and the values whose wish lies before y.
-fn furthest(
-    up: bool,
-    edge: i32,
-    y: i32,
-    wish: [i32; Flow::VARIABLES],
-    values: [i32; Flow::VARIABLES],
-) -> i32
+fn furthest(up: bool, edge: i32, y: i32, wish: Values, values: Values) -> i32
     ensures { λ r. ⌜ r ≡ furthestOf (furtherOf up) edge y wish values ⌝ }
 {
     let mut m = edge;
@@ -55,7 +50,7 @@ fn same(x: i32, y: i32) -> bool
 }
 
 // The first place of y in the wish, or one past its last.
-fn first_at(y: i32, wish: [i32; Flow::VARIABLES]) -> usize
+fn first_at(y: i32, wish: Values) -> usize
     ensures { λ r. ⌜ r ≡ firstAt 0 y wish ⌝ }
 {
     let mut i = 0;
@@ -70,13 +65,7 @@ fn first_at(y: i32, wish: [i32; Flow::VARIABLES]) -> usize
 }
 
 // The choice for a wish y beyond the edge.
-fn choose_beyond(
-    up: bool,
-    edge: i32,
-    y: i32,
-    wish: [i32; Flow::VARIABLES],
-    values: [i32; Flow::VARIABLES],
-) -> Choice
+fn choose_beyond(up: bool, edge: i32, y: i32, wish: Values, values: Values) -> Choice
     ensures { λ r. ⌜ r ≡ chooseBeyond up edge y wish values ⌝ }
 {
     let i = first_at(y, wish);
@@ -89,13 +78,7 @@ fn choose_beyond(
 }
 
 // The choice for a wish y, beside the wishes and values of the other variables.
-fn choose(
-    lo: i32,
-    hi: i32,
-    y: i32,
-    wish: [i32; Flow::VARIABLES],
-    values: [i32; Flow::VARIABLES],
-) -> Choice
+fn choose(lo: i32, hi: i32, y: i32, wish: Values, values: Values) -> Choice
     ensures { λ r. ⌜ r ≡ chooseOf lo hi y wish values ⌝ }
 {
     if hi < y {
@@ -108,13 +91,7 @@ fn choose(
 }
 
 // The choice for variable v.
-pub fn choice_for(
-    lo: i32,
-    hi: i32,
-    wish: [i32; Flow::VARIABLES],
-    values: [i32; Flow::VARIABLES],
-    v: usize,
-) -> Choice
+pub fn choice_for(lo: i32, hi: i32, wish: Values, values: Values, v: usize) -> Choice
     requires { ⌜ v < maxVariables ⌝ }
     ensures { λ r. ⌜ r ≡ chosen lo hi wish values v ⌝ }
 {

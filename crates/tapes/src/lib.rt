@@ -20,6 +20,9 @@ ghost use Rattle.tapes.specs.Reading.{firstWalk, roomed, walkAfter, rowA
 ghost use Rattle.tapes.specs.Fit.{mostRecords};
 use flow::Flow;
 
+// A value for each variable.
+pub type Values = [i32; Flow::VARIABLES];
+
 // What a read gets: a number that needs no room, or the number next to m, outward; then the numbers beyond m move.
 pub enum Choice {
     Take(i32),
@@ -29,7 +32,7 @@ pub enum Choice {
 // What is held while a sample is written: the values of the variables, how many records each tape has so far, and the cell where
 // its part of the row starts.
 pub struct Walk {
-    pub values: [i32; Flow::VARIABLES],
+    pub values: Values,
     pub counts: [usize; Flow::TAPES],
     pub starts: [usize; Flow::TAPES],
 }
@@ -74,7 +77,7 @@ fn make_room(
 }
 
 // Room for it among the values.
-fn moved_values(choice: Choice, values: [i32; Flow::VARIABLES]) -> [i32; Flow::VARIABLES]
+fn moved_values(choice: Choice, values: Values) -> Values
     requires { ⌜ All Movable values ⌝ }
     ensures { λ r. ⌜ r ≡ map (moveOf choice) values ⌝ }
 {
@@ -131,7 +134,7 @@ pub fn read_one(
     walk: Walk,
     lo: i32,
     hi: i32,
-    wish: [i32; Flow::VARIABLES],
+    wish: Values,
     a: usize,
     v: usize,
 ) -> Walk
