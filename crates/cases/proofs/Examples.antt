@@ -10,9 +10,9 @@ abbrev case : ℕ → ℕ → ℕ → Case
 case n s e = record { named = n; start = s; end = e }
 
 -- a text of two lines, with a second case behind it
-pub two-lines : nextCase (bytes "a\n1,x\n2\n\nb\n3\n") 0 ≡ case 1 2 8
+pub two-line-case : nextCase (bytes "a\n1,x\n2\n\nb\n3\n") 0 ≡ case 1 2 8
 unfolding nextCase until beforeEmpty
-two-lines = refl
+two-line-case = refl
 
 -- that second case, which no empty line ends
 pub last-case : nextCase (bytes "a\n1,x\n2\n\nb\n3\n") 9 ≡ case 10 11 13

@@ -6,7 +6,7 @@ use native.Mathlib.Omega.{arith}
 use lib.ListN.{length, getD, set, length-set}
 use lib.Seq.{getD-set-same, getD-set-other}
 use Rattle.cells.specs.Cells.{cellsOf}
-use Rattle.cells.specs.Columns.{placeField, patternField, distanceField, parentField, headField, nextField, marksField, bucketField, column, wordColumn, Rows, rowsOf, Only, Stored, Entered}
+use Rattle.cells.specs.Columns.{placeField, patternField, distanceField, parentField, headField, nextField, marksField, bucketField, column, wordColumn, Rows, columnsOf, Only, Stored, Entered}
 use Rattle.cells.specs.Index.{Node, node, bucketOf}
 use Rattle.cells.specs.Entries.{Entries, entriesOf, nodeOf, distanceOf, parentOf, Filled, FilledIn, LatestIn, Added, BegunIn}
 use Rattle.cells.proofs.Fields.{length-column, length-word-column, word-only}
@@ -59,7 +59,7 @@ pub remarked : (c c′ : List (List ℕ)) → Only marksField c c′ → (P : Ro
       nexts = column nextField c;
       fans = column marksField c′;
       buckets = column bucketField c;
-    }) → P (rowsOf c′)
+    }) → P (columnsOf c′)
 remarked c c′ o P =
     subst P
     (λ i. record {
@@ -114,7 +114,7 @@ module _ (c c₁ c₂ : List (List ℕ)) (count size place pattern distance pare
   buckets : column bucketField c₂ ≡ set (column bucketField c) count h
   buckets = s .other bucketField (omega arith) ∙ e .buckets
 
-  is-after : rowsOf c₂ ≡ after
+  is-after : columnsOf c₂ ≡ after
   is-after =
       λ i. record {
         places = places i;
@@ -127,7 +127,7 @@ module _ (c c₁ c₂ : List (List ℕ)) (count size place pattern distance pare
         buckets = buckets i;
       }
 
-  pub added : Added (entriesOf (rowsOf c)) (entriesOf (rowsOf c₂)) count (node place pattern) distance parent
+  pub added : Added (entriesOf (columnsOf c)) (entriesOf (columnsOf c₂)) count (node place pattern) distance parent
   added = record { places = places; patterns = patterns; distances = distances; parents = parents }
 
   pub filled-more : FilledIn c₂ (count + 1) size
@@ -159,7 +159,7 @@ filled-none c size some fits =
 
 -- and then the start
 pub begun : (c c₁ : List (List ℕ)) {size : ℕ} {x : Node} → FilledIn c 0 size → 0 < size
-    → Added (entriesOf (rowsOf c)) (entriesOf (rowsOf c₁)) 0 x 0 0 → FilledIn c₁ 1 size → column marksField c₁ ≡ set (column marksField c) 0 0 → BegunIn c₁ size x
+    → Added (entriesOf (columnsOf c)) (entriesOf (columnsOf c₁)) 0 x 0 0 → FilledIn c₁ 1 size → column marksField c₁ ≡ set (column marksField c) 0 0 → BegunIn c₁ size x
 begun c c₁ empty some a filled marks =
     record {
       filled = filled;

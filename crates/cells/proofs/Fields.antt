@@ -78,8 +78,8 @@ pub halves : (x : ℕ) → x % half + x / half * half ≡ x
 halves x = omega arith
 
 -- a cell with an entry written into it
-abbrev pub written : List ℕ → (a b p q distance parent next bucket : ℕ) → List ℕ
-written x a b p q distance parent next bucket =
+abbrev pub cellWritten : List ℕ → (a b p q distance parent next bucket : ℕ) → List ℕ
+cellWritten x a b p q distance parent next bucket =
     let c₁ = set (set x placeField a) (placeField + 1) b in
     let c₂ = set (set c₁ patternField p) (patternField + 1) q in
     set (set (set (set (set c₂ distanceField distance) parentField parent) nextField next) marksField 0) bucketField bucket
@@ -98,7 +98,7 @@ record Holds (x y : List ℕ) (a b p q d r n u : ℕ) : Type 0 where
   pub bucket : getD y bucketField 0 ≡ u
 
 holds : (x : List ℕ) → bucketField < length x → (a b p q distance parent next bucket : ℕ)
-    → Holds x (written x a b p q distance parent next bucket) a b p q distance parent next bucket
+    → Holds x (cellWritten x a b p q distance parent next bucket) a b p q distance parent next bucket
 holds [] l a b p q d r n u = absurd (omega arith)
 holds (x₀ ∷ []) l a b p q d r n u = absurd (omega arith)
 holds (x₀ ∷ x₁ ∷ []) l a b p q d r n u = absurd (omega arith)
@@ -125,7 +125,7 @@ holds (x₀ ∷ x₁ ∷ x₂ ∷ x₃ ∷ x₄ ∷ x₅ ∷ x₆ ∷ x₇ ∷ x
 
 pub entered : (c : List (List ℕ)) (i place pattern distance parent next bucket : ℕ) → length (getD c i []) ≡ cellWords → {a b p q : ℕ} → a ≡ place % half
     → b ≡ place / half → p ≡ pattern % half → q ≡ pattern / half
-    → Entered i place pattern distance parent next bucket c (set c i (written (getD c i []) a b p q distance parent next bucket))
+    → Entered i place pattern distance parent next bucket c (set c i (cellWritten (getD c i []) a b p q distance parent next bucket))
 entered c i place pattern distance parent next bucket long {a} {b} {p} {q} ea eb ep eq =
     record {
       places = word placeField place (h .place-low) (h .place-high) (ap₂ (λ (m n : ℕ). m + n * half) ea eb ∙ halves place);
@@ -142,18 +142,18 @@ entered c i place pattern distance parent next bucket long {a} {b} {p} {q} ea eb
     x = getD c i []
 
     y : List ℕ
-    y = written (getD c i []) a b p q distance parent next bucket
+    y = cellWritten (getD c i []) a b p q distance parent next bucket
 
-    h : Holds (getD c i []) (written (getD c i []) a b p q distance parent next bucket) a b p q distance parent next bucket
+    h : Holds (getD c i []) (cellWritten (getD c i []) a b p q distance parent next bucket) a b p q distance parent next bucket
     h = holds (getD c i []) (omega arith) a b p q distance parent next bucket
 
-    field : (f v : ℕ) → getD (written (getD c i []) a b p q distance parent next bucket) f 0 ≡ v
-        → column f (set c i (written (getD c i []) a b p q distance parent next bucket)) ≡ set (column f c) i v
-    field f v e = column-set c i (written (getD c i []) a b p q distance parent next bucket) f ∙ ap (λ (v : ℕ). set (column f c) i v) e
+    field : (f v : ℕ) → getD (cellWritten (getD c i []) a b p q distance parent next bucket) f 0 ≡ v
+        → column f (set c i (cellWritten (getD c i []) a b p q distance parent next bucket)) ≡ set (column f c) i v
+    field f v e = column-set c i (cellWritten (getD c i []) a b p q distance parent next bucket) f ∙ ap (λ (v : ℕ). set (column f c) i v) e
 
-    word : (f v : ℕ) {m n : ℕ} → getD (written (getD c i []) a b p q distance parent next bucket) f 0 ≡ m
-        → getD (written (getD c i []) a b p q distance parent next bucket) (f + 1) 0 ≡ n → m + n * half ≡ v
-        → wordColumn f (set c i (written (getD c i []) a b p q distance parent next bucket)) ≡ set (wordColumn f c) i v
+    word : (f v : ℕ) {m n : ℕ} → getD (cellWritten (getD c i []) a b p q distance parent next bucket) f 0 ≡ m
+        → getD (cellWritten (getD c i []) a b p q distance parent next bucket) (f + 1) 0 ≡ n → m + n * half ≡ v
+        → wordColumn f (set c i (cellWritten (getD c i []) a b p q distance parent next bucket)) ≡ set (wordColumn f c) i v
     word f v e e′ s =
-        word-column-set c i (written (getD c i []) a b p q distance parent next bucket) f
+        word-column-set c i (cellWritten (getD c i []) a b p q distance parent next bucket) f
         ∙ ap (λ (v : ℕ). set (wordColumn f c) i v) (ap₂ (λ (m n : ℕ). m + n * half) e e′ ∙ s)

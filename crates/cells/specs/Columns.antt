@@ -56,8 +56,8 @@ pub record Rows : Type 0 where
   pub fans : List ℕ
   pub buckets : List ℕ
 
-abbrev pub rowsOf : List (List ℕ) → Rows
-rowsOf c =
+abbrev pub columnsOf : List (List ℕ) → Rows
+columnsOf c =
     record {
       places = wordColumn placeField c;
       patterns = wordColumn patternField c;

@@ -4,7 +4,7 @@ use mathlib.Core.Bool.{false}
 use mathlib.Core.List.{List}
 use Prim.Native.Nat.{ℕ, _≤_, _<_}
 use lib.ListN.{length, getD, set}
-use Rattle.cells.specs.Columns.{placeField, patternField, wordColumn, Rows, rowsOf}
+use Rattle.cells.specs.Columns.{placeField, patternField, wordColumn, Rows, columnsOf}
 use Rattle.cells.specs.Index.{Node, nodeAt, bucketOf, Latest, Indexed}
 use Rattle.cells.specs.Marks.{isMarked}
 
@@ -39,7 +39,7 @@ pub record Filled (e : Entries) (heads nexts : List ℕ) (count cells : ℕ) : T
   pub parent-room : cells ≤ length (e .parents)
 
 abbrev pub FilledIn : List (List ℕ) → (count cells : ℕ) → Type 0
-FilledIn c count cells = Filled (entriesOf (rowsOf c)) (rowsOf c .heads) (rowsOf c .nexts) count cells
+FilledIn c count cells = Filled (entriesOf (columnsOf c)) (columnsOf c .heads) (columnsOf c .nexts) count cells
 
 -- of the first count entries v names the latest in bucket b
 abbrev pub LatestIn : List (List ℕ) → (count cells b v : ℕ) → Type 0
@@ -61,4 +61,4 @@ pub record Begun (e : Entries) (heads nexts fans : List ℕ) (cells : ℕ) (star
   pub unmarked : (v : ℕ) → isMarked fans 0 v ≡ false
 
 abbrev pub BegunIn : List (List ℕ) → (cells : ℕ) (start : Node) → Type 0
-BegunIn c cells start = Begun (entriesOf (rowsOf c)) (rowsOf c .heads) (rowsOf c .nexts) (rowsOf c .fans) cells start
+BegunIn c cells start = Begun (entriesOf (columnsOf c)) (columnsOf c .heads) (columnsOf c .nexts) (columnsOf c .fans) cells start

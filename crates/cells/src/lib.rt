@@ -4,7 +4,7 @@ ghost use mathlib.Core.Path.{_≡_};
 ghost use Prim.Native.Nat.{_+_, _*_, _/_, _%_, _<_, _≤_, min};
 ghost use lib.ListN.{length, getD, set};
 ghost use Rattle.cells.specs.Cells.{cellWords, mostCells, cellsOf, zeroed};
-ghost use Rattle.cells.specs.Columns.{half, placeField, patternField, distanceField, parentField, marksField, wayField, column, wordColumn, rowsOf, Only, Stored, Entered};
+ghost use Rattle.cells.specs.Columns.{half, placeField, patternField, distanceField, parentField, marksField, wayField, column, wordColumn, columnsOf, Only, Stored, Entered};
 ghost use Rattle.cells.specs.Index.{node, foldOf, bucketOf, FoundIs};
 ghost use Rattle.cells.specs.Entries.{entriesOf, FilledIn, LatestIn, Added, BegunIn};
 ghost use Rattle.cells.specs.Marks.{isMarked, marking};
@@ -236,7 +236,7 @@ pub fn add(
 )
     requires { ⌜ FilledIn (now cells) count size ⌝ }
     requires { ⌜ count < size ⌝ }
-    ensures { λ _. ⌜ Added (entriesOf (rowsOf (now (cells .entry)))) (entriesOf (rowsOf (now (cells .exit))))
+    ensures { λ _. ⌜ Added (entriesOf (columnsOf (now (cells .entry)))) (entriesOf (columnsOf (now (cells .exit))))
         count (node place pattern) distance parent ⌝ }
     ensures { λ _. ⌜ FilledIn (now (cells .exit)) (count + 1) size ⌝ }
     ensures { λ _. ⌜ column marksField (now (cells .exit)) ≡ set (column marksField (now (cells .entry))) count 0 ⌝ }

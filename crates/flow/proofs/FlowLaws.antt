@@ -10,12 +10,12 @@ use lib.Dec.{eqb, leb}
 use lib.ListN.{length, getD, take, drop, replicate, length-map, take-append-drop}
 use lib.Seq.{length-take-le}
 use Rattle.model.specs.Language.{Instruction, stop, Flow, fields}
-use Rattle.text.specs.Split.{lines, fields as split, until}
+use Rattle.text.specs.Split.{lines, split, until}
 use Rattle.text.proofs.Parts.{lines-at}
 use Rattle.flow.specs.Limits.{maxBytes}
 use Rattle.flow.specs.Read.{Checked, ok, fault, check, after, unless, readHead, readFlow, isNamed, all, readLines, lostTarget, readRest}
 use Rattle.flow.specs.Code.{rowOf, instructionOf, rowsOf, readingOf}
-use Rattle.flow.specs.Inner.{clamped, kept, judged, finished, HeadFits}
+use Rattle.flow.specs.Inner.{clamped, keptRows, judged, finished, HeadFits}
 use Rattle.flow.specs.declared.Refusal.{Refusal}
 use Rattle.flow.specs.declared.Refusal.the-variants.{TooLong, NoBytes, NoLastEnd, NoInstruction, NoSuchTarget}
 use Rattle.flow.specs.declared.Head.{Head}
@@ -25,8 +25,8 @@ use Rattle.flow.proofs.ClampLaws.{clamp-kept}
 use Rattle.flow.proofs.ReadLaws.{AllFit, lines-fit, at-most-64, lost-clamp, none-lost, fault-not-ok}
 
 -- what is kept of lines that are read
-pub kept-ok : (r : Checked (List Instruction)) (rows : List Row) → ok rows ≡ kept r → (xs : List Instruction) × (r ≡ ok xs) × (rows ≡ map clamped xs)
-unfolding kept
+pub kept-ok : (r : Checked (List Instruction)) (rows : List Row) → ok rows ≡ keptRows r → (xs : List Instruction) × (r ≡ ok xs) × (rows ≡ map clamped xs)
+unfolding keptRows
 kept-ok (ok xs) rows e = (xs, refl, cc)
 kept-ok (fault r) rows e = absurd (fault-not-ok (sym e))
 
@@ -70,7 +70,7 @@ module _ (h : Head) (fits : HeadFits h) (rows : List Row) (xs : List Instruction
 
 -- the rows that the lines leave behind, and the answer by them
 pub finished-is : (h : Head) → HeadFits h → (ls : List (List ℕ)) (count : ℕ) (rows : List Row) → length rows ≡ 64 → count ≤ 64
-    → ok (take count rows) ≡ kept (readLines h 1 ls) → drop count rows ≡ replicate (64 - count) (rowOf stop)
+    → ok (take count rows) ≡ keptRows (readLines h 1 ls) → drop count rows ≡ replicate (64 - count) (rowOf stop)
     → finished h count rows ≡ readingOf (readRest h ls)
 unfolding readRest
 finished-is h f ls count rows long few front past =
@@ -92,12 +92,12 @@ unfolding finished
 finished-judged h count rows any e = rw (ne-eqb count 0 any) (ap (judged h count rows) e)
 
 -- what is not kept of lines that are turned back
-kept-fault : (r : Refusal) (read : Checked (List Instruction)) → fault r ≡ kept read → fault r ≡ read
-unfolding kept
+kept-fault : (r : Refusal) (read : Checked (List Instruction)) → fault r ≡ keptRows read → fault r ≡ read
+unfolding keptRows
 kept-fault r (ok xs) e = absurd (fault-not-ok e)
 kept-fault r (fault q) e = cc
 
-pub rest-fault : (h : Head) (ls : List (List ℕ)) (r : Refusal) → fault r ≡ kept (readLines h 1 ls) → readingOf (fault r) ≡ readingOf (readRest h ls)
+pub rest-fault : (h : Head) (ls : List (List ℕ)) (r : Refusal) → fault r ≡ keptRows (readLines h 1 ls) → readingOf (fault r) ≡ readingOf (readRest h ls)
 unfolding readRest
 rest-fault h ls r e = rw (← kept-fault r (readLines h 1 ls) e)
 

@@ -15,9 +15,9 @@ use lib.IntN.{ℤ, pos, negsuc, natAbs}
 use lib.ListN.{length, getD, take, drop, set, replicate, length-drop, take-append-drop, drop-of-length-le}
 use lib.Seq.{drop-cons, drop-drop, take-suc-set, drop-set-lt}
 use Rattle.model.specs.Language.{Instruction, fields}
-use Rattle.text.specs.Split.{lines, fields as split, until}
+use Rattle.text.specs.Split.{lines, split, until}
 use Rattle.text.specs.Number.{numeral, natural}
-use Rattle.text.specs.Capped.{cap, capped, numberOf}
+use Rattle.text.specs.Capped.{cap, capped, cappedNumber}
 use Rattle.text.specs.declared.Number.the-variants.{Value, Bad}
 use Rattle.text.proofs.Cap.{number-value, number-bad, test-cut}
 use Rattle.text.proofs.Parts.{lines-at, lines-at-end}
@@ -26,7 +26,7 @@ use Rattle.flow.specs.Limits.{maxInstructions}
 use Rattle.flow.specs.Words.{kindOf, sorts, mayMinus, built}
 use Rattle.flow.specs.Read.{Checked, ok, fault, check, given, after, inRange, all, joined, numerals, readLine, readLines}
 use Rattle.flow.specs.Code.{row}
-use Rattle.flow.specs.Inner.{small, bounded, clamped, kept, HeadFits}
+use Rattle.flow.specs.Inner.{small, bounded, clamped, keptRows, HeadFits}
 use Rattle.flow.specs.Line.{smallAt, beginLine, endLine}
 use Rattle.flow.specs.declared.Kind.{Kind}
 use Rattle.flow.specs.declared.Sort.{Sort}
@@ -93,7 +93,7 @@ module _ (cs : List Sort) (fs : List (List ℕ)) (ns : List ℤ) where
           let m : k + 2 < length fs = omega arith in
           rw (e, add-one k, drop-cons cs k Target l, drop-cons fs (k + 2) [] m)
 
-      pub numbers-more : (v : ℤ) → k < length ns → numberOf (numeral (mayMinus (getD cs k Target)) (getD fs (k + 2) [])) ≡ Value v
+      pub numbers-more : (v : ℤ) → k < length ns → cappedNumber (numeral (mayMinus (getD cs k Target)) (getD fs (k + 2) [])) ≡ Value v
           → behind cs fs (set ns k (bounded v)) (k + 1) ≡ keptAll (numerals cs (drop 2 fs))
       numbers-more v m e =
           let (z, written, is) = number-value (numeral (mayMinus (getD cs k Target)) (getD fs (k + 2) [])) v e in
@@ -101,7 +101,7 @@ module _ (cs : List Sort) (fs : List (List ℕ)) (ns : List ℤ) where
           let t : take (k + 1) (set ns k (bounded v)) ≡ take k ns ++ (bounded z ∷ []) = rw (add-one, ← same) (take-suc-set ns k (bounded v) m) in
           rw t (join-one-more (take k ns) z (numerals (drop (k + 1) cs) (drop (k + 1 + 2) fs)) ∙ (rw (next, written) at inv))
 
-      pub numbers-bad : numberOf (numeral (mayMinus (getD cs k Target)) (getD fs (k + 2) [])) ≡ Bad → numerals cs (drop 2 fs) ≡ none
+      pub numbers-bad : cappedNumber (numeral (mayMinus (getD cs k Target)) (getD fs (k + 2) [])) ≡ Bad → numerals cs (drop 2 fs) ≡ none
       numbers-bad e = by (numerals cs (drop 2 fs)) (rw (next, number-bad _ e) at inv)
         where
           by : (o : Option (List ℤ)) → none ≡ keptAll o → o ≡ none
@@ -117,7 +117,7 @@ module _ (cs : List Sort) (fs : List (List ℕ)) (ns : List ℤ) where
         by (some zs) q = (zs, refl, cc)
 
 -- ---- a number without a minus, and what a row keeps of a number
-pub number-natural : (f : List ℕ) (v : ℤ) → numberOf (numeral false f) ≡ Value v → (n : ℕ) × (natural f ≡ some n) × (v ≡ capped (pos n))
+pub number-natural : (f : List ℕ) (v : ℤ) → cappedNumber (numeral false f) ≡ Value v → (n : ℕ) × (natural f ≡ some n) × (v ≡ capped (pos n))
 number-natural f v e =
     let (z, written, is) = number-value (numeral false f) v e in
     by (natural f) z (sym (numeral-natural f) ∙ written) is
@@ -126,7 +126,7 @@ number-natural f v e =
     by none z q is = absurd (none-no-some q)
     by (some n) z q is = (n, refl, cc)
 
-pub number-none : (f : List ℕ) → numberOf (numeral false f) ≡ Bad → natural f ≡ none
+pub number-none : (f : List ℕ) → cappedNumber (numeral false f) ≡ Bad → natural f ≡ none
 number-none f e = by (natural f) (sym (numeral-natural f) ∙ number-bad (numeral false f) e)
   where
     by : (o : Option ℕ) → Option·map pos o ≡ none → o ≡ none
@@ -282,8 +282,8 @@ prepended xs (ok ys) = ok (xs ++ ys)
 prepended xs (fault r) = fault r
 
 prepend-one-more : (xs : List Row) (x : Instruction) (rest : Checked (List Instruction)) →
-    prepended (xs ++ (clamped x ∷ [])) (kept rest) ≡ prepended xs (kept (after rest (λ ys. ok (x ∷ ys))))
-unfolding kept
+    prepended (xs ++ (clamped x ∷ [])) (keptRows rest) ≡ prepended xs (keptRows (after rest (λ ys. ok (x ∷ ys))))
+unfolding keptRows
 prepend-one-more xs x (ok ys) = ap ok (append-assoc xs (clamped x ∷ []) (map clamped ys))
 prepend-one-more xs x (fault r) = refl
 
@@ -297,16 +297,16 @@ followed xs (ok x) rest = prepended (xs ++ (x ∷ [])) rest
 followed xs (fault r) rest = fault r
 
 line-followed : (xs : List Row) (few : Bool) (l : Checked Instruction) (rest : Checked (List Instruction)) →
-    prepended xs (kept (check few TooManyLines (after l (λ x. after rest (λ ys. ok (x ∷ ys)))))) ≡ followed xs (rowed (check few TooManyLines l)) (kept rest)
-unfolding kept
+    prepended xs (keptRows (check few TooManyLines (after l (λ x. after rest (λ ys. ok (x ∷ ys)))))) ≡ followed xs (rowed (check few TooManyLines l)) (keptRows rest)
+unfolding keptRows
 line-followed xs false l rest = refl
 line-followed xs true (ok x) rest = sym (prepend-one-more xs x rest)
 line-followed xs true (fault r) rest = refl
 
 module _ (s : List ℕ) (at : ℕ) (h : Head) (xs : List Row) (count : ℕ) {X : Checked (List Row)}
-    (inv : prepended (take count xs) (kept (readLines h (count + 1) (lines (drop at s)))) ≡ X) where
+    (inv : prepended (take count xs) (keptRows (readLines h (count + 1) (lines (drop at s)))) ≡ X) where
   pub lines-end : length s ≤ at → ok (take count xs) ≡ X
-  unfolding readLines kept
+  unfolding readLines keptRows
   lines-end l = rw (lines-at-end s at l, append-nil) at inv
 
   module _ (fits : HeadFits h) (l : at < length s) (e : ℕ) (found : e ≡ at + until 10 (drop at s)) where
@@ -317,7 +317,7 @@ module _ (s : List ℕ) (at : ℕ) (h : Head) (xs : List Row) (count : ℕ) {X :
     abbrev rest : Checked (List Instruction)
     rest = readLines h (suc (count + 1)) (lines (drop (e + 1) s))
 
-    next-line : followed (take count xs) (stepped h count fs) (kept rest) ≡ X
+    next-line : followed (take count xs) (stepped h count fs) (keptRows rest) ≡ X
     unfolding readLines
     next-line =
         rw (← line-steps h fits count fs)
@@ -327,7 +327,7 @@ module _ (s : List ℕ) (at : ℕ) (h : Head) (xs : List Row) (count : ℕ) {X :
     lines-fault r q = rw q at next-line
 
     pub lines-more : (row : Row) → count < length xs → stepped h count fs ≡ ok row
-        → prepended (take (count + 1) (set xs count row)) (kept (readLines h (count + 1 + 1) (lines (drop (e + 1) s)))) ≡ X
+        → prepended (take (count + 1) (set xs count row)) (keptRows (readLines h (count + 1 + 1) (lines (drop (e + 1) s)))) ≡ X
     lines-more row n q =
         let t : take (count + 1) (set xs count row) ≡ take count xs ++ (row ∷ []) = rw add-one (take-suc-set xs count row n) in
         rw (t, add-one (count + 1)) (rw q at next-line)

@@ -12,7 +12,7 @@ use lib.IntN.{ℤ}
 use lib.ListN.{length, getD, take, drop, length-map, List·getD-map, drop-of-length-le}
 use lib.Seq.{drop-cons, getD-take, length-take-le}
 use Rattle.model.specs.Language.{Instruction, stop, fields}
-use Rattle.text.specs.Split.{fields as split}
+use Rattle.text.specs.Split.{split}
 use Rattle.text.specs.Number.{natural}
 use Rattle.flow.specs.Limits.{maxInstructions}
 use Rattle.flow.specs.Words.{kindOf, sorts, built}

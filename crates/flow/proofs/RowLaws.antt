@@ -14,7 +14,7 @@ use lib.Seq.{drop-cons}
 use Rattle.model.specs.Language.{Instruction, read, put, copy, const, less, over, under, nop, stop, Field, fields}
 use Rattle.model.proofs.Lists.{All}
 use Rattle.text.specs.Split.{sameWord}
-use Rattle.flow.specs.Words.{table, kinds, among, kindOf, sorts, at, built}
+use Rattle.flow.specs.Words.{table, kinds, firstNamed, kindOf, sorts, at, built}
 use Rattle.flow.specs.Inner.{field}
 use Rattle.flow.specs.Read.{all}
 use Rattle.flow.specs.Code.{kind, numbers, row, numbersIn, rowOf, instructionOf}
@@ -61,7 +61,7 @@ pub width-bound : (k : Kind) → length (sorts k) ≤ 4
 width-bound k = leb-true (length (sorts k)) 4 (tried (λ k. leb (length (sorts k)) 4) (λ k. true) refl k)
 
 pub word-known : (k : Kind) → kindOf (table k .word) ≡ some k
-unfolding among sameWord
+unfolding firstNamed sameWord
 word-known = tried (λ k. kindOf (table k .word)) some refl
 
 -- ---- a row gives its instruction back

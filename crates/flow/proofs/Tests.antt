@@ -9,7 +9,7 @@ use lib.Dec.{leb}
 use lib.ListN.{length}
 use Rattle.model.specs.Language.{Instruction, Flow, instruction, Field, tape, output, variable, target, constant, fields, C1, C2}
 use Rattle.model.proofs.Lists.{All}
-use Rattle.model.proofs.View.{Numbered, Legal as Sound, OnTarget, Targeted, targeted, view, viewAt}
+use Rattle.model.proofs.View.{Numbered, LegalFlow as Sound, OnTarget, Targeted, targeted, view, viewAt}
 use Rattle.model.proofs.Constants.{legal-basic}
 use Rattle.flow.specs.Read.{all, inRange, isNamed}
 use Rattle.flow.specs.Legal.{Legal, head}
@@ -19,8 +19,8 @@ and-split true b e = (refl, e)
 and-split false b e = absurd (false≢true e)
 
 -- from 1 up to a count
-pub counts : (n most : ℕ) → (leb 1 n && leb n most) ≡ true → (1 ≤ n) × (n ≤ most)
-counts n most e = let (a, b) = and-split (leb 1 n) (leb n most) e in (leb-true 1 n a, leb-true n most b)
+pub counts-from-one : (n most : ℕ) → (leb 1 n && leb n most) ≡ true → (1 ≤ n) × (n ≤ most)
+counts-from-one n most e = let (a, b) = and-split (leb 1 n) (leb n most) e in (leb-true 1 n a, leb-true n most b)
 
 -- a test on every field, as a fact on every field
 pub all-hold : (test : Field → Bool) (P : Field → Type 0) → ((f : Field) → test f ≡ true → P f) → (fs : List Field) → all test fs ≡ true → All P fs
@@ -33,9 +33,9 @@ pub ranges-sound : (flow : Flow) → ((i : ℕ) → all (inRange (head flow)) (f
 ranges-sound flow h = legal-basic flow (λ i. all-hold (inRange (head flow)) (Numbered flow) one (fields (instruction flow i)) (h i))
   where
     one : (f : Field) → inRange (head flow) f ≡ true → Numbered flow f
-    one (tape n) e = counts n (flow .tapes) e
+    one (tape n) e = counts-from-one n (flow .tapes) e
     one (output n) e = tt
-    one (variable n) e = counts n (flow .variables) e
+    one (variable n) e = counts-from-one n (flow .variables) e
     one (target n) e = tt
     one (constant c) e = tt
 
@@ -48,7 +48,7 @@ named-targets P count h x e = targeted P x (all-hold (isNamed count) (OnTarget P
     one (tape n) e = tt
     one (output n) e = tt
     one (variable n) e = tt
-    one (target n) e = h n (counts n count e)
+    one (target n) e = h n (counts-from-one n count e)
     one (constant c) e = tt
 
 pub legal-targets : (P : ℕ → Type 0) (flow : Flow) → ((n : ℕ) → (1 ≤ n) × (n ≤ length (flow .instructions)) → P n)

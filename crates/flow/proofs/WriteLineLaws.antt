@@ -16,10 +16,10 @@ use Rattle.text.specs.Split.{sameWord}
 use Rattle.text.specs.Number.{numeral, natural, digitsAfter}
 use Rattle.text.specs.Write.{signed}
 use Rattle.text.proofs.Words.{same-word}
-use Rattle.text.proofs.Joined.{Past, Each}
+use Rattle.text.proofs.Joined.{Past, EachPart}
 use Rattle.text.proofs.Decimal.{none-no-some, decimal-read, plain-read, signed-read, natural-written, numeral-written, decimal-past, signed-past}
 use Rattle.flow.specs.Limits.{maxTapes, maxOutputs, maxVariables}
-use Rattle.flow.specs.Words.{table, kinds, among, kindOf, sorts, mayMinus, count, at, built, number}
+use Rattle.flow.specs.Words.{table, kinds, firstNamed, kindOf, sorts, mayMinus, count, at, built, number}
 use Rattle.flow.specs.Inner.{field}
 use Rattle.flow.specs.Read.{ok, joined, numerals, inRange, all, headOf, readHead, readLine}
 use Rattle.flow.specs.Code.{kind, numbers}
@@ -152,12 +152,12 @@ module _ (k : Kind) (fs : List (List ℕ)) (zs : List ℤ) (l : length fs ≡ le
   fields-written = both .1 ∙ ap (map signed) (sym numbers-built)
 
 -- the kind that a word names has that word
-word-among : (ks : List Kind) (w : List ℕ) (k : Kind) → among ks w ≡ some k → w ≡ table k .word
-unfolding among
+word-among : (ks : List Kind) (w : List ℕ) (k : Kind) → firstNamed ks w ≡ some k → w ≡ table k .word
+unfolding firstNamed
 word-among [] w k e = absurd (none-no-some e)
 word-among (j ∷ ks) w k e = by (sameWord w (table j .word)) refl e (word-among ks w k)
   where
-    by : (t : Bool) → sameWord w (table j .word) ≡ t → cond t (some j) (among ks w) ≡ some k → (among ks w ≡ some k → w ≡ table k .word) → w ≡ table k .word
+    by : (t : Bool) → sameWord w (table j .word) ≡ t → cond t (some j) (firstNamed ks w) ≡ some k → (firstNamed ks w ≡ some k → w ≡ table k .word) → w ≡ table k .word
     by true h e rest = let same : j ≡ k = cc in same-word w (table j .word) h ∙ ap (λ (i : Kind). table i .word) same
     by false h e rest = rest e
 
@@ -201,12 +201,12 @@ past-44 (b ∷ w) e = let (h, t) = and-split (ltb 44 b) (allPast w) e in (ltb-tr
 word-past : (x : Instruction) → Past 44 (word x)
 word-past x = past-44 (word x) (tried (λ k. allPast (table k .word)) (λ k. true) refl (kind x))
 
-numbers-past : (zs : List ℤ) → Each (Past 44) (map signed zs)
+numbers-past : (zs : List ℤ) → EachPart (Past 44) (map signed zs)
 numbers-past [] = tt
 numbers-past (z ∷ zs) = (signed-past z, numbers-past zs)
 
-pub head-past : (h : Head) → Each (Past 44) (headFields h)
+pub head-past : (h : Head) → EachPart (Past 44) (headFields h)
 head-past h = (omega arith, (decimal-past (h .tapes), (decimal-past (h .outputs), (decimal-past (h .variables), tt))))
 
-pub line-past : (i : ℕ) (x : Instruction) → Each (Past 44) (lineFields i x)
+pub line-past : (i : ℕ) (x : Instruction) → EachPart (Past 44) (lineFields i x)
 line-past i x = (decimal-past i, (word-past x, numbers-past (numbers x)))

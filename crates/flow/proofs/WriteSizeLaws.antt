@@ -11,7 +11,7 @@ use lib.ListN.{length, getD, length-append, length-map}
 use Rattle.model.specs.Language.{Instruction, stop, Flow, Field, fields}
 use Rattle.model.proofs.Integers.{zarith}
 use Rattle.text.specs.Write.{decimal, signed, parted, ended}
-use Rattle.text.proofs.Joined.{Each}
+use Rattle.text.proofs.Joined.{EachPart}
 use Rattle.text.proofs.Decimal.{decimal-short}
 use Rattle.flow.specs.Limits.{maxBytes}
 use Rattle.flow.specs.Read.{inRange, isNamed, all}
@@ -42,7 +42,7 @@ word-short x =
 abbrev Short : List ℕ → Type 0
 Short f = length f ≤ 5
 
-parted-short : (fs : List (List ℕ)) → Each Short fs → length (parted fs) ≤ length fs * 6
+parted-short : (fs : List (List ℕ)) → EachPart Short fs → length (parted fs) ≤ length fs * 6
 unfolding parted
 parted-short [] p = omega arith
 parted-short (f ∷ []) (p, q) = omega arith
@@ -57,7 +57,7 @@ module _ (h : Head) (f : HeadFits h) (n : ℕ) (few : n ≤ 64) where
       by (pos k) (low, high) = omega (arith, small k (omega (zarith, high)))
       by (negsuc k) (low, high) = omega (arith, small (suc k) (omega (zarith, low)))
 
-  numbers-short : (fs : List Field) → all (inRange h) fs ≡ true → all (isNamed n) fs ≡ true → Each Short (map signed (map number fs))
+  numbers-short : (fs : List Field) → all (inRange h) fs ≡ true → all (isNamed n) fs ≡ true → EachPart Short (map signed (map number fs))
   unfolding all
   numbers-short [] r s = tt
   numbers-short (x ∷ fs) r s =

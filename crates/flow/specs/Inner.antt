@@ -84,9 +84,9 @@ unfoldable pub linesIn : Lines → Checked (List Row)
 linesIn r = answered (r .reply) (take (r .count) (r .rows))
 
 -- the rows that the code keeps of what the instruction lines are read as
-unfoldable pub kept : Checked (List Instruction) → Checked (List Row)
-kept (ok xs) = ok (map clamped xs)
-kept (fault r) = fault r
+unfoldable pub keptRows : Checked (List Instruction) → Checked (List Row)
+keptRows (ok xs) = ok (map clamped xs)
+keptRows (fault r) = fault r
 
 -- the answer once all lines are read, by the rows and the lowest line with a lost target
 unfoldable pub judged : Head → ℕ → List Row → Option ℕ → Reading

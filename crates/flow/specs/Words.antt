@@ -42,12 +42,12 @@ abbrev pub kinds : List Kind
 kinds = Read ∷ Put ∷ Copy ∷ Set ∷ Less ∷ Over ∷ Under ∷ Nop ∷ Stop ∷ []
 
 -- the first of some kinds whose word it is, and the kind that a word names
-unfoldable pub among : List Kind → List ℕ → Option Kind
-among [] w = none
-among (k ∷ ks) w = cond (sameWord w (table k .word)) (some k) (among ks w)
+unfoldable pub firstNamed : List Kind → List ℕ → Option Kind
+firstNamed [] w = none
+firstNamed (k ∷ ks) w = cond (sameWord w (table k .word)) (some k) (firstNamed ks w)
 
 abbrev pub kindOf : List ℕ → Option Kind
-kindOf w = among kinds w
+kindOf w = firstNamed kinds w
 
 -- the sorts of the fields after the word; only a constant may have a minus
 abbrev pub sorts : Kind → List Sort

@@ -3,10 +3,10 @@ ghost use mathlib.Core.Path.{_≡_};
 ghost use mathlib.Core.List.{[]};
 ghost use Prim.Native.Nat.{_+_, _≤_, _<_};
 ghost use lib.ListN.{getD};
-ghost use Rattle.text.specs.Split.{fields};
+ghost use Rattle.text.specs.Split.{split};
 ghost use Rattle.text.specs.Divided.{kept, Divided};
 ghost use Rattle.text.specs.Number.{numeral};
-ghost use Rattle.text.specs.Capped.{numberOf};
+ghost use Rattle.text.specs.Capped.{cappedNumber};
 ghost use Rattle.flow.specs.Limits.{maxInstructions};
 ghost use Rattle.flow.specs.Words.{sorts, mayMinus};
 ghost use Rattle.flow.specs.declared.Sort.the-variants.{Target};
@@ -33,7 +33,7 @@ pub enum Small {
 // Such a number in field k.
 pub fn small_at(line: &[u8], cut: Fields, k: usize) -> Small
     requires { ⌜ Divided (now line) (cut .count) (cut .ends) × (k < kept) ⌝ }
-    ensures { λ r. ⌜ smallIn r ≡ smallAt (fields (now (line .entry))) k ⌝ }
+    ensures { λ r. ⌜ smallIn r ≡ smallAt (split (now (line .entry))) k ⌝ }
 {
     let ends = cut.ends;
     let Number::Value(x) = text::read_number(text::field(line, ends, cut.count, k), false) else {
@@ -58,7 +58,7 @@ pub enum Begun {
 pub fn begin(line: &[u8], cut: Fields, count: usize) -> Begun
     requires { ⌜ count ≤ maxInstructions ⌝ }
     requires { ⌜ Divided (now line) (cut .count) (cut .ends) ⌝ }
-    ensures { λ r. ⌜ begunIn r ≡ beginLine count (fields (now (line .entry))) ⌝ }
+    ensures { λ r. ⌜ begunIn r ≡ beginLine count (split (now (line .entry))) ⌝ }
 {
     if count == Flow::MAX_INSTRUCTIONS {
         return Begun::Fault(Refusal::TooManyLines);
@@ -79,7 +79,7 @@ pub fn begin(line: &[u8], cut: Fields, count: usize) -> Begun
 // The number in field k after the word.
 pub fn number_at(line: &[u8], cut: Fields, kind: Kind, k: usize) -> Number
     requires { ⌜ Divided (now line) (cut .count) (cut .ends) × (k < maxNumbers) ⌝ }
-    ensures { λ r. ⌜ r ≡ numberOf (numeral (mayMinus (getD (sorts kind) k Target)) (getD (fields (now (line .entry))) (k + 2) [])) ⌝ }
+    ensures { λ r. ⌜ r ≡ cappedNumber (numeral (mayMinus (getD (sorts kind) k Target)) (getD (split (now (line .entry))) (k + 2) [])) ⌝ }
 {
     let minus = words::may_minus(words::sort_at(kind, k));
     let ends = cut.ends;

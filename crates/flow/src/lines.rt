@@ -4,11 +4,11 @@ ghost use mathlib.Core.List.{map};
 ghost use Prim.Native.Nat.{_-_, _≤_};
 ghost use lib.ListN.{length, drop, take, replicate};
 ghost use Rattle.model.specs.Language.{stop};
-ghost use Rattle.text.specs.Split.{lines, fields};
+ghost use Rattle.text.specs.Split.{lines, split};
 ghost use Rattle.flow.specs.Limits.{maxInstructions};
 ghost use Rattle.flow.specs.Read.{readHead, readLines, lostTarget};
 ghost use Rattle.flow.specs.Code.{rowOf, instructionOf};
-ghost use Rattle.flow.specs.Inner.{headIn, lostIn, linesIn, kept, HeadFits};
+ghost use Rattle.flow.specs.Inner.{headIn, lostIn, linesIn, keptRows, HeadFits};
 use crate::Answer;
 use crate::Flow;
 use crate::Head;
@@ -26,7 +26,7 @@ use text::Number;
 
 // Line 1.
 pub fn read_head(line: &[u8]) -> Headed
-    ensures { λ r. ⌜ headIn r ≡ readHead (fields (now (line .entry))) ⌝ }
+    ensures { λ r. ⌜ headIn r ≡ readHead (split (now (line .entry))) ⌝ }
 {
     let cut = text::divide(line);
     let ends = cut.ends;
@@ -58,7 +58,7 @@ pub struct Lines {
 // The instruction lines, which begin at `from`. The first line at fault names the refusal.
 pub fn read_lines(text: &[u8], from: usize, head: Head) -> Lines
     requires { ⌜ (from ≤ length (now text)) × HeadFits head ⌝ }
-    ensures { λ r. ⌜ linesIn r ≡ kept (readLines head 1 (lines (drop from (now (text .entry))))) ⌝ }
+    ensures { λ r. ⌜ linesIn r ≡ keptRows (readLines head 1 (lines (drop from (now (text .entry))))) ⌝ }
     ensures { λ r. ⌜ (r .count ≤ maxInstructions) × (drop (r .count) (r .rows) ≡ replicate (maxInstructions - r .count) (rowOf stop)) ⌝ }
 {
     let mut rows = [Instruction::stop(); Flow::MAX_INSTRUCTIONS];

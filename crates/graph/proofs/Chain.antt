@@ -21,7 +21,7 @@ pub record Chain {A : Type 0} (t : Table A) (path : ℕ → ℕ) (i last d : ℕ
   pub link : (e : ℕ) → d ≤ e → e < last → t .parent (path (e + 1)) ≡ path e
 
 -- an edge leads from entry i to entry j and makes up the difference of their distances
-pub record Leads {A L : Type 0} (G : Graph A L) (t : Table A) (i j : ℕ) : Type 0 where
+pub record ChainLeads {A L : Type 0} (G : Graph A L) (t : Table A) (i j : ℕ) : Type 0 where
   pub label : L
   pub edge : G .Edge (t .node i) label (t .node j)
   pub further : t .dist j ≡ t .dist i + G .cost label
@@ -74,7 +74,7 @@ module _ {A L : Type 0} {G : Graph A L} {t : Table A} (sound : Sound G t) {path 
       link e m (inr p) = ap (t .parent) (old (e + 1) (omega arith)) ∙ c .link e p m ∙ sym (old e p)
 
   -- an edge leads from each place's node to that of the next
-  pub chain-leads : (e : ℕ) → d ≤ e → e < last → Leads G t (path e) (path (e + 1))
+  pub chain-leads : (e : ℕ) → d ≤ e → e < last → ChainLeads G t (path e) (path (e + 1))
   chain-leads e l m =
       let k = sound .child (path (e + 1)) (c .later (e + 1) (omega arith) (omega arith)) (c .stored (e + 1) (omega arith) (omega arith)) in
       let p = c .link e l m in

@@ -10,7 +10,7 @@ use lib.ListN.{length}
 use Rattle.graph.specs.Lists.{In, Census}
 use Rattle.graph.specs.Graph.{Graph, Path, here, onward, Reached}
 use Rattle.graph.proofs.Counting.{different-same, listed, listed-in, in-listed, listed-once, length-listed, census-unique}
-use Rattle.graph.proofs.Table.{Table, Stored, Child, Sound, Closed}
+use Rattle.graph.proofs.Table.{Table, StoredNear, Child, Sound, Closed}
 
 module _ {A L : Type 0} {G : Graph A L} {t : Table A} (sound : Sound G t) where
   -- what holds of entry 0, and of each entry if of its parent, holds of all
@@ -42,11 +42,11 @@ module _ {A L : Type 0} {G : Graph A L} {t : Table A} (sound : Sound G t) where
 
   module _ (closed : Closed G t (t .count)) where
     -- what a path reaches is stored, at no more than its cost
-    pub path-stored : {n : ℕ} {x : A} → Path G n x → Stored t x n
+    pub path-stored : {n : ℕ} {x : A} → Path G n x → StoredNear t x n
     path-stored here = record { at = 0; below = sound .some; is = sound .origin; near = omega (arith, sound .origin-dist) }
     path-stored (onward {n = n} {k = k} {x = x} {y = y} {l = l} p e q) = go (path-stored p)
       where
-        go : Stored t x n → Stored t y k
+        go : StoredNear t x n → StoredNear t y k
         go s =
             let r = closed (s .at) (s .below) l y (subst (λ (z : A). G .Edge z l y) (sym (s .is)) e) in
             record { at = r .at; below = r .below; is = r .is; near = omega (arith, r .near, s .near) }

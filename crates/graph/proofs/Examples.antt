@@ -13,8 +13,8 @@ use Rattle.graph.specs.Graph.{Graph, Reached, ExitDistance, NoExit}
 use Rattle.graph.proofs.Table.{Table, Closed, Expanded}
 use Rattle.graph.proofs.Complete.{census-count}
 use Rattle.graph.proofs.Wanted.{Tells, nearest-distance, first-nearest, none-no-exit}
-use Rattle.graph.proofs.Search.{Searching, start, push-one, seen, advance, finish}
-use Rattle.graph.proofs.Chain.{Chain, Leads, chain-start, chain-set, chain-leads}
+use Rattle.graph.proofs.Search.{Searching, search-start, push-one, seen, advance, finish}
+use Rattle.graph.proofs.Chain.{Chain, ChainLeads, chain-start, chain-set, chain-leads}
 
 data Town : Type 0 where
   a b c d e f : Town
@@ -89,7 +89,7 @@ done n k i j s stored x y p q = advance s stored both
 
 end : Searching roads (entries 5) 5
 end =
-    let s1 = start roads (entries 1) refl refl refl refl in
+    let s1 = search-start roads (entries 1) refl refl refl refl in
     let s2 = found 1 0 true s1 (omega arith) (omega arith) refl refl refl in
     let s3 = found 2 0 false s2 (omega arith) (omega arith) refl refl refl in
     let a-done = done 3 0 1 2 s3 (omega arith) (omega arith) (omega arith) refl refl in
@@ -150,5 +150,5 @@ chain =
     let c1 = chain-set (end .sound) (0 ∷ 0 ∷ 3 ∷ 4 ∷ []) c2 (omega arith) 1 1 refl (omega arith) refl in
     chain-set (end .sound) (0 ∷ 1 ∷ 3 ∷ 4 ∷ []) c1 (omega arith) 0 0 refl (omega arith) refl
 
-b-leads-to-d : Leads roads (entries 5) 1 3
+b-leads-to-d : ChainLeads roads (entries 5) 1 3
 b-leads-to-d = chain-leads (end .sound) chain 1 (omega arith) (omega arith)

@@ -8,7 +8,7 @@ use Prim.Native.Nat.{ℕ, _+_, _<_, _≤_}
 use native.Mathlib.Omega.{arith}
 use borrow.Author.Count.{below-more}
 use Rattle.graph.specs.Graph.{Graph}
-use Rattle.graph.proofs.Table.{Table, Held, Stored, Child, Sound, Expanded, Closed, Sorted, Fresh, Extends, Pushed, closed-kept}
+use Rattle.graph.proofs.Table.{Table, Held, StoredNear, Child, Sound, Expanded, Closed, Sorted, Fresh, Extends, Pushed, closed-kept}
 
 -- k entries are expanded; distances never fall along the index, and none exceeds that of entry k by more than 1
 pub record Searching {A L : Type 0} (G : Graph A L) (t : Table A) (k : ℕ) : Type 0 where
@@ -30,9 +30,9 @@ child-of G t i j l e b edge further =
     }
 
 -- one entry, the start at distance 0
-pub start : {A L : Type 0} (G : Graph A L) (t : Table A) → t .count ≡ 1 → t .node 0 ≡ G .start → t .dist 0 ≡ 0 → t .parent 0 ≡ 0
+pub search-start : {A L : Type 0} (G : Graph A L) (t : Table A) → t .count ≡ 1 → t .node 0 ≡ G .start → t .dist 0 ≡ 0 → t .parent 0 ≡ 0
     → Searching G t 0
-start G t one node dist parent =
+search-start G t one node dist parent =
     record {
       sound =
           record {
@@ -118,12 +118,12 @@ module _ {A L : Type 0} {G : Graph A L} {t : Table A} {k : ℕ} (s : Searching G
   push-one pushed fresh l edge one = push pushed fresh l edge stored (omega arith) (s .level stored) (omega arith)
 
   -- an edge of k to a node that is stored, whenever it was, is closed
-  pub seen : {y : A} (l : L) → 1 ≤ G .cost l → Held t y → Stored t y (t .dist k + G .cost l)
+  pub seen : {y : A} (l : L) → 1 ≤ G .cost l → Held t y → StoredNear t y (t .dist k + G .cost l)
   seen l one h = record { at = h .at; below = h .below; is = h .is; near = omega (arith, s .level stored (h .at) (h .below)) }
 
   -- so a set that is stored whole, as a marked fan, closes every edge of k into it
   pub fan-closed : (Fan : A → Type 0) → ((y : A) → Fan y → Held t y) → (l : L) (y : A) → 1 ≤ G .cost l → Fan y
-      → Stored t y (t .dist k + G .cost l)
+      → StoredNear t y (t .dist k + G .cost l)
   fan-closed Fan whole l y one f = seen l one (whole y f)
 
   -- with every edge of k closed, k is expanded

@@ -19,7 +19,7 @@ pub record Held {A : Type 0} (t : Table A) (y : A) : Type 0 where
   pub is : t .node at ≡ y
 
 -- y is an entry's node, at a distance of at most d
-pub record Stored {A : Type 0} (t : Table A) (y : A) (d : ℕ) : Type 0 where
+pub record StoredNear {A : Type 0} (t : Table A) (y : A) (d : ℕ) : Type 0 where
   pub at : ℕ
   pub below : at < t .count
   pub is : t .node at ≡ y
@@ -43,7 +43,7 @@ pub record Sound {A L : Type 0} (G : Graph A L) (t : Table A) : Type 0 where
 
 -- each edge of entry i leads to a stored node, no further than the edge says
 abbrev pub Expanded : {A L : Type 0} → Graph A L → Table A → ℕ → Type 0
-Expanded {A} {L} G t i = (l : L) (y : A) → G .Edge (t .node i) l y → Stored t y (t .dist i + G .cost l)
+Expanded {A} {L} G t i = (l : L) (y : A) → G .Edge (t .node i) l y → StoredNear t y (t .dist i + G .cost l)
 
 -- the entries before k are expanded
 abbrev pub Closed : {A L : Type 0} → Graph A L → Table A → ℕ → Type 0
@@ -88,7 +88,7 @@ extends-then g h =
 pub held-kept : {A : Type 0} {t t′ : Table A} → Extends t t′ → {y : A} → Held t y → Held t′ y
 held-kept g h = record { at = h .at; below = omega (arith, g .more, h .below); is = g .nodes (h .at) (h .below) ∙ h .is }
 
-pub stored-kept : {A : Type 0} {t t′ : Table A} → Extends t t′ → {y : A} {d d′ : ℕ} → d ≤ d′ → Stored t y d → Stored t′ y d′
+pub stored-kept : {A : Type 0} {t t′ : Table A} → Extends t t′ → {y : A} {d d′ : ℕ} → d ≤ d′ → StoredNear t y d → StoredNear t′ y d′
 stored-kept g l h =
     record {
       at = h .at;
@@ -99,7 +99,7 @@ stored-kept g l h =
 
 -- a loop that finds the edges of entry i stored in a table that grows has expanded it
 pub expanded-since : {A L : Type 0} (G : Graph A L) {t t′ : Table A} → Extends t t′ → (i : ℕ) → i < t .count
-    → ((l : L) (y : A) → G .Edge (t .node i) l y → Stored t′ y (t .dist i + G .cost l)) → Expanded G t′ i
+    → ((l : L) (y : A) → G .Edge (t .node i) l y → StoredNear t′ y (t .dist i + G .cost l)) → Expanded G t′ i
 expanded-since {A} G {t} g i h all l y e =
     stored-kept (extends-same _) (omega (arith, g .dists i h)) (all l y (subst (λ (x : A). G .Edge x l y) (g .nodes i h) e))
 

@@ -7,7 +7,7 @@ use Prim.Native.Nat.{ℕ, _+_, _<_, _≤_}
 use native.Mathlib.Decide.{decLt}
 use native.Mathlib.Omega.{arith}
 use borrow.Author.Count.{below-more}
-use Rattle.graph.specs.Graph.{Graph, Exit, ExitDistance, NoExit}
+use Rattle.graph.specs.Graph.{Graph, ExitPath, ExitDistance, NoExit}
 use Rattle.graph.proofs.Table.{Table, Sound, Closed, Sorted}
 use Rattle.graph.proofs.Complete.{entry-path, path-stored}
 
@@ -57,7 +57,7 @@ module _ (takes : ℕ → Bool) where
 module _ {A L : Type 0} {G : Graph A L} {t : Table A} (sound : Sound G t) (closed : Closed G t (t .count))
     {Wanted : A → L → Type 0} {takes : ℕ → Bool} {c : ℕ} (tells : Tells G Wanted t takes c) where
   -- a path that ends with a wanted edge passes an entry that takes, at no more than its cost
-  exit-entry : (n : ℕ) → Exit G Wanted n → (j : ℕ) × (j < t .count) × (takes j ≡ true) × (t .dist j + c ≤ n)
+  exit-entry : (n : ℕ) → ExitPath G Wanted n → (j : ℕ) × (j < t .count) × (takes j ≡ true) × (t .dist j + c ≤ n)
   exit-entry n x =
       let s = path-stored sound closed (x .path) in
       let leaves = subst (Leaves G Wanted) (sym (s .is)) (record { label = x .label; target = x .target; edge = x .edge; wanted = x .wanted }) in

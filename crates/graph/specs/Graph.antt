@@ -18,7 +18,7 @@ abbrev pub Reached : {A L : Type 0} → Graph A L → A → Type 0
 Reached G x = (n : ℕ) × Path G n x
 
 -- a path of total cost d ends with a wanted edge; the cost of that edge is included
-pub record Exit {A L : Type 0} (G : Graph A L) (Wanted : A → L → Type 0) (d : ℕ) : Type 0 where
+pub record ExitPath {A L : Type 0} (G : Graph A L) (Wanted : A → L → Type 0) (d : ℕ) : Type 0 where
   pub from : A
   pub label : L
   pub target : A
@@ -30,9 +30,9 @@ pub record Exit {A L : Type 0} (G : Graph A L) (Wanted : A → L → Type 0) (d 
 
 -- the distance to the wanted edges is d: a path of cost d ends with one, and none of less
 pub record ExitDistance {A L : Type 0} (G : Graph A L) (Wanted : A → L → Type 0) (d : ℕ) : Type 0 where
-  pub exit : Exit G Wanted d
-  pub least : (n : ℕ) → Exit G Wanted n → d ≤ n
+  pub exit : ExitPath G Wanted d
+  pub least : (n : ℕ) → ExitPath G Wanted n → d ≤ n
 
 -- the distance is none: no path ends with a wanted edge
 abbrev pub NoExit : {A L : Type 0} → Graph A L → (A → L → Type 0) → Type 0
-NoExit G Wanted = (n : ℕ) → Exit G Wanted n → ⊥
+NoExit G Wanted = (n : ℕ) → ExitPath G Wanted n → ⊥

@@ -14,7 +14,7 @@ use Rattle.graph.proofs.Table.{Held}
 use Rattle.configuration.specs.Pattern.{Width, low, assignOf}
 use Rattle.configuration.specs.Place.{words}
 use Rattle.configuration.specs.Step.{endedOf, nextOf, takeOf, memberOf}
-use Rattle.configuration.specs.Graph.{Edge, moves, takes}
+use Rattle.configuration.specs.Graph.{WordEdge, moves, takes}
 use Rattle.configuration.specs.declared.Words.{Words}
 use Rattle.configuration.specs.declared.Op.{Op}
 use Rattle.configuration.specs.declared.Action.{Action}
@@ -22,10 +22,10 @@ use Rattle.configuration.specs.declared.Action.the-variants.{Read, Assign, Test
 use Rattle.configuration.proofs.Members.{member-edge, edge-closed, first-again}
 use Rattle.cells.specs.Columns.{Rows}
 use Rattle.cells.specs.Entries.{Entries, entriesOf, Filled}
-use Rattle.cells.specs.Marks.{isMarked, marking, Fresh}
+use Rattle.cells.specs.Marks.{isMarked, marking, Unmarked}
 use Rattle.table.specs.Table.{tableOf}
 use Rattle.growth.specs.Growth.{Outgrown, Met, Kept, VisitedIs, grownOf}
-use Rattle.growth.specs.Fan.{Member, MembersIs, Marked, FreshIs, Ready, Leads, opensBy, opensOf, InFan, Fine, GrownIs}
+use Rattle.growth.specs.Fan.{Member, MembersIs, Marked, FreshIs, SearchReady, LeadsTo, opensBy, opensOf, InFan, FanFits, GrownIs}
 use Rattle.growth.specs.declared.Visited.{Visited}
 use Rattle.growth.specs.declared.Visited.the-variants.{At, Full as None}
 use Rattle.growth.specs.declared.Grown.{Grown}
@@ -104,7 +104,7 @@ module _ (w v : ℕ) (f : Words) {e₀ : Entries} {count cells d k : ℕ} where
         }
 
 -- ---- the fan of a read that leads from x
-module _ {w : ℕ} {op : Op} {x : Words} (fine : Fine w op x) where
+module _ {w : ℕ} {op : Op} {x : Words} (fine : FanFits w op x) where
   abbrev f : Words
   f = takeOf w op x low
 
@@ -119,20 +119,20 @@ module _ {w : ℕ} {op : Op} {x : Words} (fine : Fine w op x) where
       (sym (first-again w (fine .width) (x .pattern) v (fine .lane (opens-read op x o .0))))
 
   -- its members are led to
-  pub member-leads : opensOf op x ≡ true → (z : Words) → Member w v f z → Leads w op x z
+  pub member-leads : opensOf op x ≡ true → (z : Words) → Member w v f z → LeadsTo w op x z
   member-leads o z (u, tr, q) =
       let (r, e) = opens-read op x o in
-      (some p-exit, subst (Edge w op x (some p-exit)) q (member-edge w (fine .width) op x (fine .lane) r (fine .valid) e u))
+      (some p-exit, subst (WordEdge w op x (some p-exit)) q (member-edge w (fine .width) op x (fine .lane) r (fine .valid) e u))
 
   -- and it is the member by the record C1
-  pub first-leads : opensOf op x ≡ true → Leads w op x f
+  pub first-leads : opensOf op x ≡ true → LeadsTo w op x f
   unfolding takeOf
   first-leads o =
       let (r, e) = opens-read op x o in
       (some p-exit, takes low r e (record { first = omega arith; last = omega arith }))
 
   -- with the step that reads no record these are all
-  pub leads-either : (z : Words) → Leads w op x z → InFan w op x z ⊎ (z ≡ nextOf w op x)
+  pub leads-either : (z : Words) → LeadsTo w op x z → InFan w op x z ⊎ (z ≡ nextOf w op x)
   leads-either z (l, e) =
       edge-closed w (fine .width) op x (fine .lane) (λ (y : Words). InFan w op x y ⊎ (y ≡ nextOf w op x)) (inr refl)
       (λ r q u t. inl (read-opens op x r q, (u, t, refl))) e
@@ -142,35 +142,35 @@ module _ {w : ℕ} {op : Op} {x : Words} (fine : Fine w op x) where
 
   -- no record can be found
   pub fan-shut : opensOf op x ≡ false → {e : Entries} {heads nexts : List ℕ} {count cells d k : ℕ} → Filled e heads nexts count cells
-      → Kept (Leads w op x) (InFan w op x) e e heads nexts count cells d k count
+      → Kept (LeadsTo w op x) (InFan w op x) e e heads nexts count cells d k count
   fan-shut s filled = kept-none filled (λ z m. true-false (sym (m .0) ∙ s))
 
   module _ (o : opensOf op x ≡ true) {f′ : Words} (q : f′ ≡ f) where
-    first-wanted : Leads w op x f′
-    first-wanted = subst (Leads w op x) (sym q) (first-leads o)
+    first-wanted : LeadsTo w op x f′
+    first-wanted = subst (LeadsTo w op x) (sym q) (first-leads o)
 
-    member-wanted : (z : Words) → Member w v f′ z → Leads w op x z
+    member-wanted : (z : Words) → Member w v f′ z → LeadsTo w op x z
     member-wanted z m = member-leads o z (subst (λ (g : Words). Member w v g z) q m)
 
     member-own : (z : Words) → InFan w op x z → Member w v f′ z
     member-own z m = subst (λ (g : Words). Member w v g z) (sym q) (m .1)
 
     module _ {e : Entries} {heads nexts : List ℕ} {count cells d k : ℕ} (filled : Filled e heads nexts count cells) where
-      nothing : Kept (Leads w op x) (λ z. ⊥) e e heads nexts count cells d k count
+      nothing : Kept (LeadsTo w op x) (λ z. ⊥) e e heads nexts count cells d k count
       nothing = kept-none filled (λ z a. a)
 
       -- no cell is left for the first member
-      pub fan-first-full : Outgrown (λ z. z ≡ f′) d k (tableOf e count) cells → Outgrown (Leads w op x) d k (tableOf e count) cells
+      pub fan-first-full : Outgrown (λ z. z ≡ f′) d k (tableOf e count) cells → Outgrown (LeadsTo w op x) d k (tableOf e count) cells
       fan-first-full = outgrown-visit nothing f′ first-wanted
 
       -- the first member is entry i
       module _ {e₁ : Entries} {heads₁ nexts₁ : List ℕ} {i n : ℕ} (met : Met e e₁ heads₁ nexts₁ count cells d k f′ i n) where
-        begun : Kept (Leads w op x) (λ z. ⊥) e e₁ heads₁ nexts₁ count cells d k n
+        begun : Kept (LeadsTo w op x) (λ z. ⊥) e e₁ heads₁ nexts₁ count cells d k n
         begun = kept-visit nothing f′ first-wanted met (λ z. ⊥) (λ z a. inl a)
 
         -- its fan is marked
-        pub fan-marked : (fans fans₁ : List ℕ) → Marked w fans (tableOf e count) → Fresh fans fans₁ count n → isMarked fans₁ i v ≡ true
-            → Kept (Leads w op x) (InFan w op x) e e₁ heads₁ nexts₁ count cells d k n × Marked w fans₁ (tableOf e₁ n)
+        pub fan-marked : (fans fans₁ : List ℕ) → Marked w fans (tableOf e count) → Unmarked fans fans₁ count n → isMarked fans₁ i v ≡ true
+            → Kept (LeadsTo w op x) (InFan w op x) e e₁ heads₁ nexts₁ count cells d k n × Marked w fans₁ (tableOf e₁ n)
         unfolding tableOf
         fan-marked fans fans₁ marks fresh is = (record { filled = met .filled; grows = begun .grows; all = held }, later)
           where
@@ -183,15 +183,15 @@ module _ {w : ℕ} {op : Op} {x : Words} (fine : Fine w op x) where
                 subst (Held (tableOf e₁ n)) (ap (λ (g : Words). memberOf w v g u) (met .is) ∙ s) (later i v (met .below) is u tr)
 
         -- no cell is left for a member
-        pub fan-full : Outgrown (Member w v f′) d k (tableOf e₁ n) cells → Outgrown (Leads w op x) d k (tableOf e count) cells
+        pub fan-full : Outgrown (Member w v f′) d k (tableOf e₁ n) cells → Outgrown (LeadsTo w op x) d k (tableOf e count) cells
         fan-full g = outgrown-then (begun .grows) (outgrown-wider member-wanted g)
 
         -- it gets its mark, and the fan is stored
         pub fan-all : {e₂ : Entries} {heads₂ nexts₂ : List ℕ} {m : ℕ}
             → Kept (Member w v f′) (Member w v f′) e₁ e₂ heads₂ nexts₂ n cells d k m
-            → (fans fans₁ fans₂ : List ℕ) → Marked w fans (tableOf e count) → Fresh fans fans₁ count n → i < length fans₁
-            → Fresh (marking fans₁ i v) fans₂ n m
-            → Kept (Leads w op x) (InFan w op x) e e₂ heads₂ nexts₂ count cells d k m × Marked w fans₂ (tableOf e₂ m)
+            → (fans fans₁ fans₂ : List ℕ) → Marked w fans (tableOf e count) → Unmarked fans fans₁ count n → i < length fans₁
+            → Unmarked (marking fans₁ i v) fans₂ n m
+            → Kept (LeadsTo w op x) (InFan w op x) e e₂ heads₂ nexts₂ count cells d k m × Marked w fans₂ (tableOf e₂ m)
         unfolding tableOf
         fan-all kept fans fans₁ fans₂ marks fresh room fresh′ = (
           record {
@@ -205,19 +205,19 @@ module _ {w : ℕ} {op : Op} {x : Words} (fine : Fine w op x) where
 
   -- ---- the whole entry: the fan, and then the step that reads no record
   module _ {e e₁ : Entries} {heads nexts : List ℕ} {count cells d k n : ℕ}
-      (kept : Kept (Leads w op x) (InFan w op x) e e₁ heads nexts count cells d k n) (y : Words) (is : y ≡ nextOf w op x) where
-    next-wanted : Leads w op x y
-    next-wanted = (_, subst (Edge w op x _) (sym is) moves)
+      (kept : Kept (LeadsTo w op x) (InFan w op x) e e₁ heads nexts count cells d k n) (y : Words) (is : y ≡ nextOf w op x) where
+    next-wanted : LeadsTo w op x y
+    next-wanted = (_, subst (WordEdge w op x _) (sym is) moves)
 
-    pub expand-full : Outgrown (λ z. z ≡ y) d k (tableOf e₁ n) cells → Outgrown (Leads w op x) d k (tableOf e count) cells
+    pub expand-full : Outgrown (λ z. z ≡ y) d k (tableOf e₁ n) cells → Outgrown (LeadsTo w op x) d k (tableOf e count) cells
     expand-full = outgrown-visit kept y next-wanted
 
     pub expand-all : {e₂ : Entries} {heads₂ nexts₂ : List ℕ} {i m : ℕ} → Met e₁ e₂ heads₂ nexts₂ n cells d k y i m → (fans fans′ : List ℕ)
-        → Marked w fans (tableOf e₁ n) → Fresh fans fans′ n m
-        → Kept (Leads w op x) (Leads w op x) e e₂ heads₂ nexts₂ count cells d k m × Marked w fans′ (tableOf e₂ m)
+        → Marked w fans (tableOf e₁ n) → Unmarked fans fans′ n m
+        → Kept (LeadsTo w op x) (LeadsTo w op x) e e₂ heads₂ nexts₂ count cells d k m × Marked w fans′ (tableOf e₂ m)
     unfolding tableOf
     expand-all met fans fans′ marks fresh = (
-      kept-visit kept y next-wanted met (Leads w op x) (λ z l. either z (leads-either z l)),
+      kept-visit kept y next-wanted met (LeadsTo w op x) (λ z l. either z (leads-either z l)),
       marked-kept w fans fans′ (grows-extends (met .grows)) fresh marks,
     )
       where
@@ -237,9 +237,9 @@ module _ (S All : Words → Type 0) (w : ℕ) (r r′ : Rows) (count cells d k :
   grown-full q = subst (GrownIs S All w r r′ count cells d k) q is
 
 -- ---- what `fan` answers
-module _ {w : ℕ} {op : Op} {x : Words} (fine : Fine w op x) {r : Rows} {count cells : ℕ} (ready : Ready w r count cells) (d k : ℕ) where
+module _ {w : ℕ} {op : Op} {x : Words} (fine : FanFits w op x) {r : Rows} {count cells : ℕ} (ready : SearchReady w r count cells) (d k : ℕ) where
   abbrev FanIs : Rows → Grown → Type 0
-  FanIs r′ g = GrownIs (Leads w op x) (InFan w op x) w r r′ count cells d k g
+  FanIs r′ g = GrownIs (LeadsTo w op x) (InFan w op x) w r r′ count cells d k g
 
   -- no record can be found
   pub shut-answer : opensOf op x ≡ false → FanIs r (To count)
@@ -280,14 +280,14 @@ module _ {w : ℕ} {op : Op} {x : Words} (fine : Fine w op x) {r : Rows} {count 
       unfolding GrownIs MembersIs FreshIs
       members-answer fans₁ fans₂ fresh long set r′ (To m) fresh′ kept =
           fan-all fine o q (ready .filled) met kept (r .fans) fans₁ (r′ .fans) (ready .marked) (fresh-at (r .fans) fans₁ count s fresh e)
-          (omega (arith, mark-room .0, long)) (subst (λ (l : List ℕ). Fresh l (r′ .fans) n m) set fresh′)
+          (omega (arith, mark-room .0, long)) (subst (λ (l : List ℕ). Unmarked l (r′ .fans) n m) set fresh′)
       members-answer fans₁ fans₂ fresh long set r′ Full fresh′ over = fan-full fine o q (ready .filled) met over
 
 -- ---- what `expand` answers
-module _ {w : ℕ} {op : Op} {x : Words} (fine : Fine w op x) (r r′ : Rows) (count cells d k : ℕ) (g : Grown)
-    (fanned : GrownIs (Leads w op x) (InFan w op x) w r r′ count cells d k g) where
+module _ {w : ℕ} {op : Op} {x : Words} (fine : FanFits w op x) (r r′ : Rows) (count cells d k : ℕ) (g : Grown)
+    (fanned : GrownIs (LeadsTo w op x) (InFan w op x) w r r′ count cells d k g) where
   -- no cell was left for the fan
-  pub fan-answer : g ≡ Full → (r″ : Rows) → GrownIs (Leads w op x) (Leads w op x) w r r″ count cells d k Full
+  pub fan-answer : g ≡ Full → (r″ : Rows) → GrownIs (LeadsTo w op x) (LeadsTo w op x) w r r″ count cells d k Full
   unfolding GrownIs
   fan-answer e r″ = grown-full _ _ w r r′ count cells d k g fanned e
 
@@ -299,13 +299,13 @@ module _ {w : ℕ} {op : Op} {x : Words} (fine : Fine w op x) (r r′ : Rows) (c
     -- the next words are visited
     pub next-answer : {y : Words} → y ≡ nextOf w op x → (r″ : Rows) (s : Visited) → FreshIs (r′ .fans) (r″ .fans) n (grownOf s)
         → VisitedIs (entriesOf r′) (entriesOf r″) (r″ .heads) (r″ .nexts) n cells d k y s → {g′ : Grown} → g′ ≡ grownOf s
-        → GrownIs (Leads w op x) (Leads w op x) w r r″ count cells d k g′
+        → GrownIs (LeadsTo w op x) (LeadsTo w op x) w r r″ count cells d k g′
     unfolding GrownIs grownOf VisitedIs FreshIs
-    next-answer {y} is r″ s fresh visited e′ = subst (GrownIs (Leads w op x) (Leads w op x) w r r″ count cells d k) (sym e′) (go s fresh visited)
+    next-answer {y} is r″ s fresh visited e′ = subst (GrownIs (LeadsTo w op x) (LeadsTo w op x) w r r″ count cells d k) (sym e′) (go s fresh visited)
       where
         go : (s : Visited) → FreshIs (r′ .fans) (r″ .fans) n (grownOf s)
             → VisitedIs (entriesOf r′) (entriesOf r″) (r″ .heads) (r″ .nexts) n cells d k y s
-            → GrownIs (Leads w op x) (Leads w op x) w r r″ count cells d k (grownOf s)
+            → GrownIs (LeadsTo w op x) (LeadsTo w op x) w r r″ count cells d k (grownOf s)
         go (At i m) fresh met =
             expand-all fine (grown-to _ _ w r r′ count cells d k g fanned e .0) y is met (r′ .fans) (r″ .fans)
             (grown-to _ _ w r r′ count cells d k g fanned e .1) fresh

@@ -10,15 +10,15 @@ use Rattle.graph.proofs.Table.{Table, Held}
 use Rattle.flow.specs.Limits.{maxVariables}
 use Rattle.configuration.specs.Pattern.{Width, low}
 use Rattle.configuration.specs.Step.{takeOf, memberOf, endedOf}
-use Rattle.configuration.specs.Graph.{Trial, Edge}
+use Rattle.configuration.specs.Graph.{Trial, WordEdge}
 use Rattle.configuration.specs.declared.Words.{Words}
 use Rattle.configuration.specs.declared.Op.{Op}
 use Rattle.configuration.specs.declared.Action.{Action}
 use Rattle.configuration.specs.declared.Action.the-variants.{Read, Assign, Test, Go, Stop}
 use Rattle.configuration.proofs.Lanes.{Valid}
-use Rattle.cells.specs.Columns.{marksField, column, Rows, rowsOf}
+use Rattle.cells.specs.Columns.{marksField, column, Rows, columnsOf}
 use Rattle.cells.specs.Entries.{Entries, entriesOf, Filled}
-use Rattle.cells.specs.Marks.{isMarked, Fresh}
+use Rattle.cells.specs.Marks.{isMarked, Unmarked}
 use Rattle.table.specs.Table.{tableOf}
 use Rattle.growth.specs.Growth.{Outgrown, Kept}
 use Rattle.growth.specs.declared.Grown.{Grown}
@@ -34,7 +34,7 @@ MembersIs w v f e e′ heads nexts count cells d k (To n) = Kept (Member w v f) 
 MembersIs w v f e e′ heads nexts count cells d k Full = Outgrown (Member w v f) d k (tableOf e count) cells
 
 abbrev pub MembersIn : (w v : ℕ) → Words → (c c′ : List (List ℕ)) (count cells d k : ℕ) → Grown → Type 0
-MembersIn w v f c c′ = MembersIs w v f (entriesOf (rowsOf c)) (entriesOf (rowsOf c′)) (rowsOf c′ .heads) (rowsOf c′ .nexts)
+MembersIn w v f c c′ = MembersIs w v f (entriesOf (columnsOf c)) (entriesOf (columnsOf c′)) (columnsOf c′ .heads) (columnsOf c′ .nexts)
 
 -- ---- marks
 -- a mark of entry i for v says that the fan over v whose first member is entry i is stored whole; a cell with no entry may hold any marks
@@ -44,22 +44,22 @@ Marked w fans t =
 
 -- visits mark none of the entries that they add, and leave the marks of those that were there
 unfoldable pub FreshIs : (fans fans′ : List ℕ) (count : ℕ) → Grown → Type 0
-FreshIs fans fans′ count (To n) = Fresh fans fans′ count n
-FreshIs fans fans′ count Full = Fresh fans fans′ count count
+FreshIs fans fans′ count (To n) = Unmarked fans fans′ count n
+FreshIs fans fans′ count Full = Unmarked fans fans′ count count
 
 abbrev pub FreshIn : (c c′ : List (List ℕ)) (count : ℕ) → Grown → Type 0
 FreshIn c c′ = FreshIs (column marksField c) (column marksField c′)
 
 -- what a search keeps in the rows
-pub record Ready (w : ℕ) (r : Rows) (count cells : ℕ) : Type 0 where
+pub record SearchReady (w : ℕ) (r : Rows) (count cells : ℕ) : Type 0 where
   pub filled : Filled (entriesOf r) (r .heads) (r .nexts) count cells
   pub room : cells ≤ length (r .fans)
   pub marked : Marked w (r .fans) (tableOf (entriesOf r) count)
 
 -- ---- what an instruction leads to
 -- an edge of x leads to y
-abbrev pub Leads : (w : ℕ) → Op → (x y : Words) → Type 0
-Leads w op x y = (e : Option Exit) × Edge w op x e y
+abbrev pub LeadsTo : (w : ℕ) → Op → (x y : Words) → Type 0
+LeadsTo w op x y = (e : Option Exit) × WordEdge w op x e y
 
 -- whether an instruction is a read that can find a record
 abbrev pub opensBy : Action → Op → Words → Bool
@@ -77,7 +77,7 @@ abbrev pub InFan : (w : ℕ) → Op → (x y : Words) → Type 0
 InFan w op x y = (opensOf op x ≡ true) × Member w (op .variable) (takeOf w op x low) y
 
 -- what fans need of the instruction and the words: a read names one of four variables, and the pattern's codes are those of values
-pub record Fine (w : ℕ) (op : Op) (x : Words) : Type 0 where
+pub record FanFits (w : ℕ) (op : Op) (x : Words) : Type 0 where
   pub width : Width w
   pub lane : op .action ≡ Read → op .variable < maxVariables
   pub valid : Valid w (x .pattern)

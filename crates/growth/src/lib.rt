@@ -6,10 +6,10 @@
 ghost use mathlib.Core.Path.{_≡_};
 ghost use Prim.Native.Nat.{_<_};
 ghost use Rattle.configuration.specs.Pattern.{Width, low, assignOf};
-ghost use Rattle.cells.specs.Columns.{rowsOf};
+ghost use Rattle.cells.specs.Columns.{columnsOf};
 ghost use Rattle.cells.specs.Entries.{FilledIn};
 ghost use Rattle.growth.specs.Growth.{VisitedIn, grownOf};
-ghost use Rattle.growth.specs.Fan.{FreshIn, MembersIn, Ready, Leads, opensOf, InFan, Fine, GrownIs};
+ghost use Rattle.growth.specs.Fan.{FreshIn, MembersIn, SearchReady, LeadsTo, opensOf, InFan, FanFits, GrownIs};
 use cells::Cell;
 use cells::Found;
 use configuration::Action;
@@ -141,10 +141,10 @@ pub fn fan(
     w: u64,
     x: Words,
 ) -> Grown
-    requires { ⌜ Ready w (rowsOf (now cells)) count size ⌝ }
+    requires { ⌜ SearchReady w (columnsOf (now cells)) count size ⌝ }
     requires { ⌜ k < count ⌝ }
-    requires { ⌜ Fine w op x ⌝ }
-    ensures { λ r. ⌜ GrownIs (Leads w op x) (InFan w op x) w (rowsOf (now (cells .entry))) (rowsOf (now (cells .exit))) count size d k r ⌝ }
+    requires { ⌜ FanFits w op x ⌝ }
+    ensures { λ r. ⌜ GrownIs (LeadsTo w op x) (InFan w op x) w (columnsOf (now (cells .entry))) (columnsOf (now (cells .exit))) count size d k r ⌝ }
 {
     if !opens(op, x) {
         return Grown::To(count);

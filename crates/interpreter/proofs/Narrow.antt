@@ -13,16 +13,16 @@ use lib.Seq.{getD-take, take-set-lt}
 use Rattle.model.specs.Language.{Instruction, Flow, Field, tape, output, variable, target, constant}
 use Rattle.model.specs.Machine.{State, goTo, stepBy, exitIf, hasRecord, exitBy}
 use Rattle.model.proofs.View.{Term, held, literal, View, reads, sets, tests, goes, stops, view, term, onTape, taken}
-use Rattle.model.proofs.View.{stepView, exitView, step-by, exit-by, SoundTerm, Sound}
+use Rattle.model.proofs.View.{stepView, exitView, step-by, exit-by, SoundTerm, SoundView}
 use Rattle.flow.specs.Read.{all, inRange, isNamed}
 use Rattle.flow.specs.declared.Head.{Head}
-use Rattle.flow.proofs.Tests.{and-split, counts}
-use Rattle.interpreter.specs.Held.{Fits, AllFit}
+use Rattle.flow.proofs.Tests.{and-split, counts-from-one}
+use Rattle.interpreter.specs.Held.{FieldFits, FieldsFit}
 
 -- ---- fields in range name tapes and variables that there are
 
 pub ranges-fit : (h : Head) → h .outputs ≤ 3 → (n : ℕ) (fs : List Field) → all (inRange h) fs ≡ true → all (isNamed n) fs ≡ true
-    → AllFit (h .tapes) (h .variables) fs
+    → FieldsFit (h .tapes) (h .variables) fs
 unfolding all
 ranges-fit h few n [] r s = tt
 ranges-fit h few n (f ∷ fs) r s =
@@ -30,14 +30,14 @@ ranges-fit h few n (f ∷ fs) r s =
     let (c, d) = and-split (isNamed n f) (all (isNamed n) fs) s in
     (one f a c, ranges-fit h few n fs b d)
   where
-    one : (f : Field) → inRange h f ≡ true → isNamed n f ≡ true → Fits (h .tapes) (h .variables) f
-    one (tape m) w v = counts m (h .tapes) w
-    one (output m) w v = let (a, b) = counts m (h .outputs) w in (a, omega (arith, few, b))
-    one (variable m) w v = counts m (h .variables) w
-    one (target m) w v = counts m n v .0
+    one : (f : Field) → inRange h f ≡ true → isNamed n f ≡ true → FieldFits (h .tapes) (h .variables) f
+    one (tape m) w v = counts-from-one m (h .tapes) w
+    one (output m) w v = let (a, b) = counts-from-one m (h .outputs) w in (a, omega (arith, few, b))
+    one (variable m) w v = counts-from-one m (h .variables) w
+    one (target m) w v = counts-from-one m n v .0
     one (constant c) w v = tt
 
-pub fit-more : {t v t′ v′ : ℕ} (fs : List Field) → t ≤ t′ → v ≤ v′ → AllFit t v fs → AllFit t′ v′ fs
+pub fit-more : {t v t′ v′ : ℕ} (fs : List Field) → t ≤ t′ → v ≤ v′ → FieldsFit t v fs → FieldsFit t′ v′ fs
 fit-more [] h k fit = tt
 fit-more (tape n ∷ fs) h k fit = (omega (arith, fit .0), fit-more fs h k (fit .1))
 fit-more (output n ∷ fs) h k fit = (fit .0, fit-more fs h k (fit .1))
@@ -84,7 +84,7 @@ module _ (flow : Flow) (s w : State) (narrow : Narrow (flow .tapes) (flow .varia
     same-term (held u) h = same-value u h
     same-term (literal c) h = refl
 
-    narrow-view : (x : View) → Sound lo hi flow x → Both (stepView x s) (stepView x w)
+    narrow-view : (x : View) → SoundView lo hi flow x → Both (stepView x s) (stepView x w)
     narrow-view (reads a u p m) h = rw (same-left a (h .0)) (narrow-read (onTape w a) a u p m (h .0) (h .1))
     narrow-view (sets t u n) h =
         record { next = refl; variables = narrow-set u (term (s .variables) t) (term (w .variables) t) (h .1) (same-term t (h .0)); left = narrow .left }
@@ -92,15 +92,15 @@ module _ (flow : Flow) (s w : State) (narrow : Narrow (flow .tapes) (flow .varia
     narrow-view (goes n) h = narrow-on n n refl
     narrow-view stops h = narrow
 
-    exit-same : (x : View) → Sound lo hi flow x → exitView x s ≡ exitView x w
+    exit-same : (x : View) → SoundView lo hi flow x → exitView x s ≡ exitView x w
     exit-same (reads a u p m) h = ap (λ (l : List ℤ). some (exitIf (hasRecord l))) (same-left a (h .0))
     exit-same (sets t u n) h = refl
     exit-same (tests t u p m) h = ap₂ (λ (y z : ℤ). some (exitIf (ltZ y z))) (same-term t (h .0)) (same-term u (h .1))
     exit-same (goes n) h = refl
     exit-same stops h = refl
 
-    pub narrow-step : (i : Instruction) → Sound lo hi flow (view i) → Both (stepBy i s) (stepBy i w)
+    pub narrow-step : (i : Instruction) → SoundView lo hi flow (view i) → Both (stepBy i s) (stepBy i w)
     narrow-step i h = rw (step-by i s, step-by i w) (narrow-view (view i) h)
 
-    pub narrow-exit : (i : Instruction) → Sound lo hi flow (view i) → exitBy i s ≡ exitBy i w
+    pub narrow-exit : (i : Instruction) → SoundView lo hi flow (view i) → exitBy i s ≡ exitBy i w
     narrow-exit i h = exit-by i s ∙ exit-same (view i) h ∙ sym (exit-by i w)

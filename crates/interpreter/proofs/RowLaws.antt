@@ -23,7 +23,7 @@ use Rattle.flow.specs.Words.{built}
 use Rattle.flow.proofs.RowLaws.{tried}
 use Rattle.flow.proofs.Tests.{named-targets}
 use Rattle.interpreter.proofs.Narrow.{ranges-fit, fit-more}
-use Rattle.interpreter.specs.Held.{AllFit, RowFits, countAt, stops, outputs}
+use Rattle.interpreter.specs.Held.{FieldsFit, RowFits, countAt, stops, outputs}
 use Rattle.interpreter.specs.Run.{Output, isStop, putsBy}
 
 -- ---- by kind
@@ -44,8 +44,8 @@ put-kind k e = by (outputs k) e (tried (λ j. cond (outputs j) Put j) (λ j. j) 
     by true e h = sym h
     by false e h = absurd (false≢true e)
 
-pub put-fits : (x : Row) (t v : ℕ) → outputs (x .kind) ≡ true → AllFit t v (fields (instructionOf x)) → ((1 ≤ countAt x 0) × (countAt x 0 ≤ v)) × ((1 ≤ countAt x 1) × (countAt x 1 ≤ 255))
-put-fits x t v e h = let f = subst (λ (k : Kind). AllFit t v (fields (built k (numbersIn x)))) (put-kind (x .kind) e) h in (f .0, f .1 .0)
+pub put-fits : (x : Row) (t v : ℕ) → outputs (x .kind) ≡ true → FieldsFit t v (fields (instructionOf x)) → ((1 ≤ countAt x 0) × (countAt x 0 ≤ v)) × ((1 ≤ countAt x 1) × (countAt x 1 ≤ 255))
+put-fits x t v e h = let f = subst (λ (k : Kind). FieldsFit t v (fields (built k (numbersIn x)))) (put-kind (x .kind) e) h in (f .0, f .1 .0)
 
 -- ---- where an instruction leads
 
@@ -99,10 +99,10 @@ module _ (flow : Rows) (next : ℕ) (is : (1 ≤ next) × (next ≤ length (flow
       number (suc k) h = let e : suc k - 1 ≡ k = omega arith in rw e refl
 
   module _ (legal : Legal (flowOf flow)) where
-    pub flow-fits : AllFit (flow .tapes) (flow .variables) (fields (instructionOf (getD (flow .instructions) (next - 1) d)))
+    pub flow-fits : FieldsFit (flow .tapes) (flow .variables) (fields (instructionOf (getD (flow .instructions) (next - 1) d)))
     unfolding flowOf
     flow-fits =
-        subst (λ (i : Instruction). AllFit (flow .tapes) (flow .variables) (fields i)) row-is
+        subst (λ (i : Instruction). FieldsFit (flow .tapes) (flow .variables) (fields i)) row-is
         (ranges-fit (head (flowOf flow)) (legal .outputs) (length (flowOf flow .instructions)) (fields (instruction (flowOf flow) next)) (legal .ranges next) (legal .targets next))
 
     pub row-fits : RowFits (getD (flow .instructions) (next - 1) d)

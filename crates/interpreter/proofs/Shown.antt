@@ -13,7 +13,7 @@ use lib.ListN.{length, getD, set, drop, length-append, length-drop, length-map}
 use lib.Seq.{drop-cons, set-append-seam}
 use Rattle.model.specs.Language.{Instruction, instruction, fields, C1, C2}
 use Rattle.model.specs.Machine.{State, value, stepBy, Exit, p-exit, m-exit, exitBy, exitOf}
-use Rattle.model.proofs.View.{view, Sound, sound}
+use Rattle.model.proofs.View.{view, SoundView, sound}
 use Rattle.flow.specs.Code.{instructionOf, flowOf}
 use Rattle.flow.specs.Legal.{Legal}
 use Rattle.flow.specs.Read.{all, isNamed}
@@ -24,7 +24,7 @@ use Rattle.interpreter.proofs.Narrow.{Narrow, same-value, narrow-step, 
 use Rattle.interpreter.proofs.RowLaws.{putting, row-stops, row-puts, put-fits, leads-on, row-is, flow-fits}
 use Rattle.flow.specs.Words.{branches}
 use Rattle.interpreter.specs.declared.Onward.{Onward}
-use Rattle.interpreter.specs.Held.{AllFit, countAt, held, Placed, stops, outputs, exitWhen, Stepped}
+use Rattle.interpreter.specs.Held.{FieldsFit, countAt, held, Placed, stops, outputs, exitWhen, Stepped}
 use Rattle.interpreter.specs.Run.{Output, Progress, coming, putsBy, counted, onward, isStop, fit, written}
 
 -- one cell more of a row is written
@@ -113,13 +113,13 @@ module _ (flow : Rows) (cells : ℕ) (row : List ℤ) (ends : List ℕ) (numbers
       abbrev w : State
       w = held (l .next) row (l .variables) (l .at) ends
 
-      fit-row : AllFit (flow .tapes) (flow .variables) (fields (instructionOf x))
+      fit-row : FieldsFit (flow .tapes) (flow .variables) (fields (instructionOf x))
       fit-row = flow-fits flow (l .next) (shows .named) d legal
 
       -- it names tapes and variables of the flow
-      own : Sound (C1 (flowOf flow)) (C2 (flowOf flow)) (flowOf flow) (view (instructionOf x))
+      own : SoundView (C1 (flowOf flow)) (C2 (flowOf flow)) (flowOf flow) (view (instructionOf x))
       own =
-          subst (λ (i : Instruction). Sound (C1 (flowOf flow)) (C2 (flowOf flow)) (flowOf flow) (view i)) (row-is flow (l .next) (shows .named) d)
+          subst (λ (i : Instruction). SoundView (C1 (flowOf flow)) (C2 (flowOf flow)) (flowOf flow) (view i)) (row-is flow (l .next) (shows .named) d)
           (sound (ranges-sound (flowOf flow) (legal .ranges)) (l .next))
 
       pub coming-is : coming (flowOf flow) r ≡ instructionOf x

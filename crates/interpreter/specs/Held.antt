@@ -35,19 +35,19 @@ pub record Placed (row : List ℤ) (at ends : List ℕ) : Type 0 where
   pub within : (i : ℕ) → getD ends i 0 ≤ length row
 
 -- fields that name tapes 1 to t and variables 1 to v, and count from 1; a row names three tapes and four variables at most
-abbrev pub Fits : (t v : ℕ) → Field → Type 0
-Fits t v (tape n) = (1 ≤ n) × (n ≤ t)
-Fits t v (output n) = (1 ≤ n) × (n ≤ 255)
-Fits t v (variable n) = (1 ≤ n) × (n ≤ v)
-Fits t v (target n) = 1 ≤ n
-Fits t v (constant c) = Unit {0}
+abbrev pub FieldFits : (t v : ℕ) → Field → Type 0
+FieldFits t v (tape n) = (1 ≤ n) × (n ≤ t)
+FieldFits t v (output n) = (1 ≤ n) × (n ≤ 255)
+FieldFits t v (variable n) = (1 ≤ n) × (n ≤ v)
+FieldFits t v (target n) = 1 ≤ n
+FieldFits t v (constant c) = Unit {0}
 
-abbrev pub AllFit : (t v : ℕ) → List Field → Type 0
-AllFit t v [] = Unit {0}
-AllFit t v (f ∷ fs) = Fits t v f × AllFit t v fs
+abbrev pub FieldsFit : (t v : ℕ) → List Field → Type 0
+FieldsFit t v [] = Unit {0}
+FieldsFit t v (f ∷ fs) = FieldFits t v f × FieldsFit t v fs
 
 unfoldable pub RowFits : Row → Type 0
-RowFits x = AllFit maxTapes maxVariables (fields (instructionOf x))
+RowFits x = FieldsFit maxTapes maxVariables (fields (instructionOf x))
 
 -- the kinds that end a run, and that put
 abbrev any : List Output → Bool

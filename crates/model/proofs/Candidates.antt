@@ -14,9 +14,9 @@ use Rattle.model.specs.Pattern.{rank, mark, pattern}
 use Rattle.model.specs.Sample.{Near}
 use Rattle.model.proofs.Integers.{true-in, Inside}
 use Rattle.model.proofs.Lists.{All, all-of, all-getD, all-set, all-map}
-use Rattle.model.proofs.View.{held, literal, at}
+use Rattle.model.proofs.View.{held, literal, laneValue}
 use Rattle.model.proofs.Alike.{Alike, alike-set, Fits, fits-term}
-use Rattle.model.proofs.Side.{place, spread, moved, inside-near, Side, side, Zone, beyond, within, zone}
+use Rattle.model.proofs.Side.{place, spread, spreadValue, inside-near, Side, side, Zone, beyond, within, zone}
 use Rattle.model.proofs.Ranks.{different-length, moved-beyond, pattern-alike, alike-pattern}
 use Rattle.model.proofs.Room.{Absent, holds, furthest, Top, top, top-is, fits-next}
 
@@ -35,7 +35,7 @@ module _ {lo hi : ℤ} (z : Inside lo hi (pos 0)) (S : Side lo hi) where
   open Side S using (out, back, less, next, lt-i, lt-o, tr-i, fa-i, eq-i, next-is, edge, edge-in, inner, order, near-even, stays)
 
   module _ (n : ℕ) {v w : List ℤ} (k : Alike lo hi v w) (even : All (Even S n) w) where
-    even-at : (i : ℕ) → Even S n (at w i)
+    even-at : (i : ℕ) → Even S n (laneValue w i)
     even-at i = all-getD (Even S n) w i (pos 0) even (λ h. absurd (omega (arith, lt-i, inner (pos 0) z)))
 
     top-even : (x t : ℤ) → Top S edge v w x t → (j : ℕ) × (out t + back edge ≡ (out edge + 2 * j) + back t) × (j ≤ n)
@@ -48,11 +48,11 @@ module _ {lo hi : ℤ} (z : Inside lo hi (pos 0)) (S : Side lo hi) where
     candidate-beyond : (x : ℤ) → T (less edge x) → Candidate lo hi n v x w
     candidate-beyond x h = go (holds v x (λ e. omega (arith, lt-i, eq-i, inner (pos 0) z)))
       where
-        go : ((i : ℕ) × (at v i ≡ x)) ⊎ Absent v x → Candidate lo hi n v x w
+        go : ((i : ℕ) × (laneValue v i ≡ x)) ⊎ Absent v x → Candidate lo hi n v x w
         go (inl (i, e)) =
-            let (j, a, b) = even-at i (subst T (order k (literal edge) (held i) edge-in tt) (lt-o edge (at v i) (omega (arith, lt-i, eq-i)))) in
-            let fits = subst (λ (u : ℤ). Fits lo hi v u w (at w i)) e (fits-term (held i) tt k) in
-            (at w i, near-even (suc (2 * n)) (at w i) (omega arith) (omega arith), fits)
+            let (j, a, b) = even-at i (subst T (order k (literal edge) (held i) edge-in tt) (lt-o edge (laneValue v i) (omega (arith, lt-i, eq-i)))) in
+            let fits = subst (λ (u : ℤ). Fits lo hi v u w (laneValue w i)) e (fits-term (held i) tt k) in
+            (laneValue w i, near-even (suc (2 * n)) (laneValue w i) (omega arith) (omega arith), fits)
         go (inr none) =
             let t = furthest less edge x v w in
             let r = top S edge (inner (pos 0) z) v w x (k .size) in
@@ -60,14 +60,14 @@ module _ {lo hi : ℤ} (z : Inside lo hi (pos 0)) (S : Side lo hi) where
               next t,
               near-even (suc (2 * n)) (next t) (omega (arith, next-is t)) (omega (arith, next-is t)),
               fits-next S v w x t k h none r
-                  (λ i e. let (l, c, d) = even-at i (lt-o edge (at w i) (omega (arith, eq-i, next-is t))) in omega (arith, eq-i, next-is t)),
+                  (λ i e. let (l, c, d) = even-at i (lt-o edge (laneValue w i) (omega (arith, eq-i, next-is t))) in omega (arith, eq-i, next-is t)),
             )
 
   -- the spread puts every value at an even distance
-  even-moved : (v : List ℤ) (x : ℤ) → Even S (length v) (moved lo hi v x)
+  even-moved : (v : List ℤ) (x : ℤ) → Even S (length v) (spreadValue lo hi v x)
   even-moved v x h = go (less edge x) refl
     where
-      go : (b : Bool) → less edge x ≡ b → (k : ℕ) × (out (moved lo hi v x) + back edge ≡ (out edge + 2 * k) + back (moved lo hi v x)) × (k ≤ length v)
+      go : (b : Bool) → less edge x ≡ b → (k : ℕ) × (out (spreadValue lo hi v x) + back edge ≡ (out edge + 2 * k) + back (spreadValue lo hi v x)) × (k ≤ length v)
       go true e = (rank less edge v x, moved-beyond z S v x (true-in (less edge x) e), different-length (λ u. less edge u && not (less x u)) v)
       go false e = absurd (omega (arith, lt-i, stays v x e))
 
@@ -79,8 +79,8 @@ module _ {lo hi : ℤ} (z : Inside lo hi (pos 0)) where
   unfolding spread pattern
   spaced-spread v b =
       let P : ℤ → Type 0 = Even (side z b) (length v) in
-      let each = all-of (λ x. P (moved lo hi v x)) (even-moved z (side z b) v) v in
-      let marks = all-map (λ x. P (moved lo hi v x)) (λ m. P (place lo hi m)) (mark lo hi v) (λ x h. h) v each in
+      let each = all-of (λ x. P (spreadValue lo hi v x)) (even-moved z (side z b) v) v in
+      let marks = all-map (λ x. P (spreadValue lo hi v x)) (λ m. P (place lo hi m)) (mark lo hi v) (λ x h. h) v each in
       all-map (λ m. P (place lo hi m)) P (place lo hi) (λ m h. h) (map (mark lo hi v) v) marks
 
   pub spaced-set : (n : ℕ) (w : List ℤ) (i : ℕ) (c : ℤ) → Inside lo hi c → Spaced z n w → Spaced z n (set w i c)

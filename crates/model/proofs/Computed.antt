@@ -20,7 +20,7 @@ use Rattle.model.specs.Configuration.{Configuration, configuration, Cens
 use Rattle.model.specs.Distance.{Distance, NoDistance}
 use Rattle.model.proofs.Integers.{zarith, up, dn, suc-is, sub-pos, and-in, and-out, or-in, or-left, or-right, true-in, false-in}
 use Rattle.model.proofs.Lists.{All, all-getD, in-left, in-right, in-either}
-use Rattle.model.proofs.View.{View, reads, sets, tests, goes, stops, viewAt, Numbered, Legal}
+use Rattle.model.proofs.View.{View, reads, sets, tests, goes, stops, viewAt, Numbered, LegalFlow}
 use Rattle.model.proofs.Side.{near-in, near-out}
 use Rattle.model.proofs.Ranks.{equal-in, equal-out}
 use Rattle.model.proofs.Graph.{trial, fedWith, Edge, still, fed, origin, Reach, first, further}
@@ -58,28 +58,28 @@ list-dec d (x ∷ l) (y ∷ m) =
     same-dec (λ h. ap₂ _∷_ (h .0) (h .1)) (λ e. (head-eq-of-cons-eq e, tail-eq-of-cons-eq e)) (both-dec (d x y) (list-dec d l m))
 
 -- which of the three a mark is, and its value or rank
-abbrev pub kind : Mark → ℕ
-kind (inside c) = 0
-kind (above k) = 1
-kind (below k) = 2
+abbrev pub markKind : Mark → ℕ
+markKind (inside c) = 0
+markKind (above k) = 1
+markKind (below k) = 2
 
 abbrev pub amount : Mark → ℤ
 amount (inside c) = c
 amount (above k) = pos k
 amount (below k) = pos k
 
-pub apart : (x y : Mark) → T (not (eqb (kind x) (kind y))) → x ≡ y → ⊥
-apart x y h e = T-not (eqb (kind x) (kind y)) h (eqb-out (kind x) (kind y) (ap kind e))
+pub marks-apart : (x y : Mark) → T (not (eqb (markKind x) (markKind y))) → x ≡ y → ⊥
+marks-apart x y h e = T-not (eqb (markKind x) (markKind y)) h (eqb-out (markKind x) (markKind y) (ap markKind e))
 
 abbrev pub mark-dec : (x y : Mark) → Dec (x ≡ y)
 mark-dec (inside x) (inside y) = decided (equal x y) (λ h. ap inside (equal-in x y h)) (λ e. equal-out x y (ap amount e))
-mark-dec (inside x) (above k) = no (apart (inside x) (above k) tt)
-mark-dec (inside x) (below k) = no (apart (inside x) (below k) tt)
-mark-dec (above j) (inside y) = no (apart (above j) (inside y) tt)
+mark-dec (inside x) (above k) = no (marks-apart (inside x) (above k) tt)
+mark-dec (inside x) (below k) = no (marks-apart (inside x) (below k) tt)
+mark-dec (above j) (inside y) = no (marks-apart (above j) (inside y) tt)
 mark-dec (above j) (above k) = decided (eqb j k) (λ h. ap above (eqb→eq j k h)) (λ e. eqb-out j k (ap (λ (m : Mark). up (amount m)) e))
-mark-dec (above j) (below k) = no (apart (above j) (below k) tt)
-mark-dec (below j) (inside y) = no (apart (below j) (inside y) tt)
-mark-dec (below j) (above k) = no (apart (below j) (above k) tt)
+mark-dec (above j) (below k) = no (marks-apart (above j) (below k) tt)
+mark-dec (below j) (inside y) = no (marks-apart (below j) (inside y) tt)
+mark-dec (below j) (above k) = no (marks-apart (below j) (above k) tt)
 mark-dec (below j) (below k) = decided (eqb j k) (λ h. ap below (eqb→eq j k h)) (λ e. eqb-out j k (ap (λ (m : Mark). up (amount m)) e))
 
 abbrev pub configuration-dec : (c d : Configuration) → Dec (c ≡ d)
@@ -247,7 +247,7 @@ module _ (lo hi : ℤ) (flow : Flow) where
   found-in : (i : ℕ) (e : Exit) (k : List Configuration) → T (found i e k) → Some (λ c. T (exitAt i e c)) k
   found-in i e (d ∷ k) h = either-some (λ c. T (exitAt i e c)) d k (or-in (exitAt i e d) (found i e k) h) (found-in i e k)
 
-  module _ (l : Legal lo hi flow) where
+  module _ (l : LegalFlow lo hi flow) where
     target-edge : (c c′ : Configuration) → In c′ (targets c) → (o : Option Exit) × Edge lo hi flow c o c′
     target-edge c c′ (inl e) = (exitOf flow (trial lo hi flow c), subst (Edge lo hi flow c (exitOf flow (trial lo hi flow c))) (sym e) still)
     target-edge c c′ (inr h) = go (viewAt flow (c .next)) refl h
@@ -365,10 +365,10 @@ every-in p P f [] h = tt
 every-in p P f (x ∷ l) h = let (a, b) = and-in (p x) (every p l) h in (f x a, every-in p P f l b)
 
 -- every field of a flow's lines is in its range
-abbrev pub inRange : Flow → Bool
-inRange flow = every (λ i. every (numbered flow) (fields i)) (flow .instructions)
+abbrev pub allNumbered : Flow → Bool
+allNumbered flow = every (λ i. every (numbered flow) (fields i)) (flow .instructions)
 
-pub legal-tested : (flow : Flow) → T (inRange flow) → Legal (C1 flow) (C2 flow) flow
+pub legal-tested : (flow : Flow) → T (allNumbered flow) → LegalFlow (C1 flow) (C2 flow) flow
 legal-tested flow h = legal-basic flow (λ i. all-getD InRange (stop ∷ flow .instructions) i stop (tt, all) tt)
   where
     InRange : Instruction → Type 0

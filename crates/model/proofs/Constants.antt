@@ -12,7 +12,7 @@ use Rattle.model.specs.Language.{Instruction, stop, Flow, instruction, f
 use Rattle.graph.specs.Lists.{In}
 use Rattle.model.proofs.Integers.{zarith, Inside}
 use Rattle.model.proofs.Lists.{All, in-left, in-right}
-use Rattle.model.proofs.View.{Numbered, Legal}
+use Rattle.model.proofs.View.{Numbered, LegalFlow}
 
 -- one more constant: it lies inside, and what lay inside still does
 wider : (c lo hi x : ℤ) → Inside lo hi (pos 0) → (x ≡ c) ⊎ Inside lo hi x → Inside (cond (ltZ c lo) c lo) (cond (ltZ hi c) c hi) x
@@ -57,5 +57,5 @@ unfolding constants
 constant-of flow zero c h = absurd h
 constant-of flow (suc i) c h = constant-at (flow .instructions) i c h
 
-pub legal-basic : (flow : Flow) → ((i : ℕ) → All (Numbered flow) (fields (instruction flow i))) → Legal (C1 flow) (C2 flow) flow
+pub legal-basic : (flow : Flow) → ((i : ℕ) → All (Numbered flow) (fields (instruction flow i))) → LegalFlow (C1 flow) (C2 flow) flow
 legal-basic flow h = record { zero = zero-basic flow; numbers = h; constants-inside = λ i c k. constant-basic flow c (constant-of flow i c k) }

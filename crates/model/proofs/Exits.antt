@@ -15,7 +15,7 @@ use Rattle.model.specs.Machine.{State, Exit, p-exit, m-exit, exitIf, has
 use Rattle.model.specs.Configuration.{Configuration, configuration}
 use Rattle.model.proofs.Integers.{false-out}
 use Rattle.model.proofs.Lists.{getD-like}
-use Rattle.model.proofs.View.{View, reads, sets, tests, goes, stops, viewAt, term, exitView, exit-view, Legal}
+use Rattle.model.proofs.View.{View, reads, sets, tests, goes, stops, viewAt, term, exitView, exit-view, LegalFlow}
 use Rattle.model.proofs.Side.{inside-near}
 use Rattle.model.proofs.Graph.{trial, fedWith, Edge, still, fed}
 
@@ -60,7 +60,7 @@ none-in e h = let z : _≡_ {A = ℕ} 0 1 = cc in omega arith
 abbrev pub takesExit : (lo hi : ℤ) → Flow → Configuration → Exit → Bool
 takesExit lo hi flow c e = hasExit (viewAt flow (c .next)) (trial lo hi flow c) e
 
-module _ {lo hi : ℤ} {flow : Flow} (l : Legal lo hi flow) (c : Configuration) where
+module _ {lo hi : ℤ} {flow : Flow} (l : LegalFlow lo hi flow) (c : Configuration) where
   no-record : (a : ℕ) → exitView (reads a 0 0 0) (trial lo hi flow c) ≡ some m-exit
   no-record a = ap (λ (q : List ℤ). some (exitIf (hasRecord q))) (getD-like (flow .tapes) a [])
 

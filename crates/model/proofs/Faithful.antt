@@ -10,7 +10,7 @@ use Rattle.model.specs.Machine.{State, start, run}
 use Rattle.model.proofs.Integers.{Inside}
 use Rattle.model.proofs.Lists.{getD-map, set-map, map-replicate}
 use Rattle.model.proofs.View.{Term, held, literal, View, reads, sets, tests, goes, stops, viewAt}
-use Rattle.model.proofs.View.{term, onTape, taken, stepView, Legal, Known, SoundTerm, Sound, sound, known}
+use Rattle.model.proofs.View.{term, onTape, taken, stepView, LegalFlow, Known, SoundTerm, SoundView, sound, known}
 use Rattle.model.proofs.Runs.{run-end}
 
 pub record Faithful (lo hi : ℤ) (f : ℤ → ℤ) : Type 0 where
@@ -29,11 +29,11 @@ taken-map : (f : ℤ → ℤ) (l : List ℤ) (a v p m : ℕ) (s : State) → tak
 taken-map f [] a v p m s = refl
 taken-map f (x ∷ rest) a v p m s = rw (set-map f (s .variables) v x, set-map (map f) (s .left) a rest)
 
-module _ {lo hi : ℤ} {flow : Flow} (l : Legal lo hi flow) (f : ℤ → ℤ) (k : Faithful lo hi f) where
+module _ {lo hi : ℤ} {flow : Flow} (l : LegalFlow lo hi flow) (f : ℤ → ℤ) (k : Faithful lo hi f) where
   sound-map : (v : List ℤ) (t : Term) → SoundTerm lo hi flow t → term (map f v) t ≡ f (term v t)
   sound-map v t h = term-map lo hi f (l .zero) k v t (known lo hi flow t h)
 
-  step-map : (w : View) → Sound lo hi flow w → (s : State) → stepView w (mapState f s) ≡ mapState f (stepView w s)
+  step-map : (w : View) → SoundView lo hi flow w → (s : State) → stepView w (mapState f s) ≡ mapState f (stepView w s)
   step-map (reads a v p m) h s = rw (getD-map (map f) (s .left) a [] [] refl) (taken-map f (onTape s a) a v p m s)
   step-map (sets t v n) h s = rw (sound-map (s .variables) t (h .0), set-map f (s .variables) v (term (s .variables) t))
   step-map (tests x y p m) h s = rw (sound-map (s .variables) x (h .0), sound-map (s .variables) y (h .1), k .keeps)

@@ -15,7 +15,7 @@ use Rattle.model.specs.Pattern.{Mark, pattern}
 use Rattle.model.specs.Configuration.{Configuration, configuration}
 use Rattle.model.specs.Sample.{Near}
 use Rattle.model.proofs.Lists.{getD-like}
-use Rattle.model.proofs.View.{View, reads, viewAt, stepView, exitView, step-view, exit-view, Legal}
+use Rattle.model.proofs.View.{View, reads, viewAt, stepView, exitView, step-view, exit-view, LegalFlow}
 use Rattle.model.proofs.Side.{spread}
 use Rattle.model.proofs.Ranks.{length-pattern}
 use Rattle.model.proofs.Candidates.{Spaced, spaced-spread, spaced-set, fan}
@@ -67,7 +67,7 @@ pub record Proper (lo hi : ℤ) (c : Configuration) : Type 0 where
   pub values : List ℤ
   pub marks : pattern lo hi values ≡ c .marks
 
-module _ {lo hi : ℤ} {flow : Flow} (l : Legal lo hi flow) where
+module _ {lo hi : ℤ} {flow : Flow} (l : LegalFlow lo hi flow) where
   pub proper-spaced : (c : Configuration) → Proper lo hi c → Spaced (l .zero) (length (c .marks)) (spread lo hi (c .marks))
   proper-spaced c q =
       let w = pattern lo hi (q .values) in

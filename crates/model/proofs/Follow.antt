@@ -15,7 +15,7 @@ use Rattle.model.specs.Distance.{Takes, Distance}
 use Rattle.model.specs.Sample.{Near, Sample}
 use Rattle.model.proofs.Lists.{All, all-in, all-getD, all-set, all-snoc, all-map, all-replicate, map-replicate, getD-like, set-like}
 use Rattle.model.proofs.View.{View, reads, sets, tests, goes, stops, viewAt, term, onTape}
-use Rattle.model.proofs.View.{stepView, exitView, step-view, exit-view, Legal, Sound, sound, known}
+use Rattle.model.proofs.View.{stepView, exitView, step-view, exit-view, LegalFlow, SoundView, sound, known}
 use Rattle.model.proofs.Faithful.{Faithful, mapState, run-map}
 use Rattle.model.proofs.Side.{near-wider, inside-near}
 use Rattle.model.proofs.Room.{near-term}
@@ -40,7 +40,7 @@ records-none zero = refl
 records-none (suc n) = omega (arith, records-none n)
 
 -- after n steps, r of which read a record, the run stands at instruction k with the values v and the ends e, and has read all of its tapes
-pub record Stands (lo hi : ℤ) (flow : Flow) (n r : ℕ) (tapes : List (List ℤ)) (k : ℕ) (v : List ℤ) (e : List Bool) : Type 0 where
+pub record RunStands (lo hi : ℤ) (flow : Flow) (n r : ℕ) (tapes : List (List ℤ)) (k : ℕ) (v : List ℤ) (e : List Bool) : Type 0 where
   pub count : length tapes ≡ flow .tapes
   pub is : run flow tapes n ≡ resting flow k v e
   pub near : All (All (Near lo hi r)) tapes
@@ -55,8 +55,8 @@ step-left flow (tests x y p m) k v e = refl
 step-left flow (goes n) k v e = refl
 step-left flow stops k v e = refl
 
-module _ {lo hi : ℤ} {flow : Flow} (l : Legal lo hi flow) where
-  pub stands-start : Stands lo hi flow 0 0 (replicate (flow .tapes) []) 1 (replicate (flow .variables) (pos 0)) (replicate (flow .tapes) false)
+module _ {lo hi : ℤ} {flow : Flow} (l : LegalFlow lo hi flow) where
+  pub stands-start : RunStands lo hi flow 0 0 (replicate (flow .tapes) []) 1 (replicate (flow .variables) (pos 0)) (replicate (flow .tapes) false)
   stands-start = record {
     count = length-replicate {A = List ℤ} (flow .tapes) [];
     is = refl;
@@ -66,7 +66,7 @@ module _ {lo hi : ℤ} {flow : Flow} (l : Legal lo hi flow) where
     few = omega arith;
   }
 
-  near-step : (r : ℕ) (w : View) → Sound lo hi flow w → (k : ℕ) (v : List ℤ) (e : List Bool) → All (Near lo hi r) v
+  near-step : (r : ℕ) (w : View) → SoundView lo hi flow w → (k : ℕ) (v : List ℤ) (e : List Bool) → All (Near lo hi r) v
       → All (Near lo hi r) (stepView w (resting flow k v e) .variables)
   near-step r (reads a u p m) h k v e n = rw (getD-like {A = List ℤ} (flow .tapes) a []) n
   near-step r (sets t u m) h k v e n = all-set (Near lo hi r) v u (term v t) n (near-term (l .zero) r v n t (known lo hi flow t (h .0)))
@@ -74,12 +74,12 @@ module _ {lo hi : ℤ} {flow : Flow} (l : Legal lo hi flow) where
   near-step r (goes m) h k v e n = n
   near-step r stops h k v e n = n
 
-  module _ {n r : ℕ} {tapes : List (List ℤ)} {k : ℕ} {v : List ℤ} {e : List Bool} (s : Stands lo hi flow n r tapes k v e) where
+  module _ {n r : ℕ} {tapes : List (List ℤ)} {k : ℕ} {v : List ℤ} {e : List Bool} (s : RunStands lo hi flow n r tapes k v e) where
     -- a step that reads no record
     abbrev pub after : State
     after = step flow (resting flow k v e)
 
-    pub stands-silent : Stands lo hi flow (suc n) r tapes (after .next) (after .variables) (after .ended)
+    pub stands-silent : RunStands lo hi flow (suc n) r tapes (after .next) (after .variables) (after .ended)
     stands-silent = record {
       count = s .count;
       is = steps-end flow n (start flow tapes) ∙ ap (step flow) (s .is)
@@ -106,7 +106,7 @@ module _ {lo hi : ℤ} {flow : Flow} (l : Legal lo hi flow) where
       offer = more a x (resting flow k (map f v) e)
 
       lane : a < flow .tapes
-      lane = (subst (Sound lo hi flow) i (sound l k)) .0
+      lane = (subst (SoundView lo hi flow) i (sound l k)) .0
 
       base-count : length base ≡ flow .tapes
       base-count = length-map tapes (map f) ∙ s .count
@@ -140,7 +140,7 @@ module _ {lo hi : ℤ} {flow : Flow} (l : Legal lo hi flow) where
       }
 
       pub stands-fed : ((q : ℕ) (y : ℤ) → Near lo hi q y → Near lo hi (suc q) (f y)) → Near lo hi (suc r) x
-          → Stands lo hi flow (suc n) (suc r) (append (map (map f) tapes) a x) p (set (map f v) u x) e
+          → RunStands lo hi flow (suc n) (suc r) (append (map (map f) tapes) a x) p (set (map f v) u x) e
       stands-fed fnear xnear = record {
         count = length-set base a (getD base a [] ++ (x ∷ [])) ∙ base-count;
         is = steps-end flow n (start flow (append base a x)) ∙ ap (step flow) fed-run ∙ fed-step;

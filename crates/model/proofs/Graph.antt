@@ -16,7 +16,7 @@ use Rattle.model.specs.Configuration.{Configuration, configuration}
 use Rattle.model.specs.Sample.{Near}
 use Rattle.model.proofs.Lists.{getD-like}
 use Rattle.model.proofs.View.{View, reads, sets, tests, goes, stops, viewAt, onTape}
-use Rattle.model.proofs.View.{stepView, exitView, step-view, exit-view, Legal, Sound, sound, known}
+use Rattle.model.proofs.View.{stepView, exitView, step-view, exit-view, LegalFlow, SoundView, sound, known}
 use Rattle.model.proofs.Alike.{Alike, alike-sym, alike-set, fits-term}
 use Rattle.model.proofs.Side.{spread}
 use Rattle.model.proofs.Ranks.{pattern-alike, alike-spread, length-pattern}
@@ -86,7 +86,7 @@ silent-resting flow (tests x y p m) k l e = tt
 silent-resting flow (goes n) k l e = tt
 silent-resting flow stops k l e = tt
 
-step-like : (lo hi : ℤ) (flow : Flow) (w : View) → Sound lo hi flow w → (s s′ : State) → Like lo hi s s′ → Silent w s → Silent w s′
+step-like : (lo hi : ℤ) (flow : Flow) (w : View) → SoundView lo hi flow w → (s s′ : State) → Like lo hi s s′ → Silent w s → Silent w s′
     → (exitView w s ≡ exitView w s′) × Like lo hi (stepView w s) (stepView w s′)
 step-like lo hi flow (reads a v p m) h s s′ k e e′ =
     (rw (e, e′), rw (e, e′) (record { next = refl; ends = ap (λ q. set q a true) (k .ends); values = k .values }))
@@ -102,7 +102,7 @@ step-like lo hi flow stops h s s′ k e e′ = (refl, k)
 abbrev pub Moves : (lo hi : ℤ) → Flow → State → Type 0
 Moves lo hi flow s = Edge lo hi flow (configuration lo hi s) (exitOf flow s) (configuration lo hi (step flow s))
 
-module _ {lo hi : ℤ} {flow : Flow} (l : Legal lo hi flow) where
+module _ {lo hi : ℤ} {flow : Flow} (l : LegalFlow lo hi flow) where
   like-configuration : (s s′ : State) → Like lo hi s s′ → configuration lo hi s ≡ configuration lo hi s′
   like-configuration s s′ k = λ i. record { next = k .next i; ended = k .ends i; marks = pattern-alike (l .zero) (k .values) i }
 

@@ -22,7 +22,7 @@ use Rattle.model.specs.Sample.{Sample}
 use Rattle.model.proofs.Integers.{zarith, false-out, Inside}
 use Rattle.model.proofs.Lists.{all-weaker, in-left, map-replicate}
 use Rattle.model.proofs.View.{Term, held, literal, View, reads, sets, tests, goes, stops, viewAt, term}
-use Rattle.model.proofs.View.{onTape, taken, stepView, exitView, exit-view, Numbered, Legal, SoundTerm, Sound, sound}
+use Rattle.model.proofs.View.{onTape, taken, stepView, exitView, exit-view, Numbered, LegalFlow, SoundTerm, SoundView, sound}
 use Rattle.model.proofs.Side.{mark-inside}
 use Rattle.model.proofs.Ranks.{equal-in, length-pattern}
 use Rattle.model.proofs.Runs.{run-end, Fair, fair-run}
@@ -80,7 +80,7 @@ census-onto lo hi f g there back a b =
     (λ x y p q e. sym (a x p .1) ∙ ap back e ∙ a y q .1)
 
 -- ---- runs beside more lanes
-module _ {lo hi : ℤ} {flow : Flow} (l : Legal lo hi flow) (nt nv : ℕ) (more-tapes : flow .tapes ≤ nt) (more-values : flow .variables ≤ nv) where
+module _ {lo hi : ℤ} {flow : Flow} (l : LegalFlow lo hi flow) (nt nv : ℕ) (more-tapes : flow .tapes ≤ nt) (more-values : flow .variables ≤ nv) where
   abbrev zeros : List ℤ
   zeros = replicate (nv - flow .variables) (pos 0)
 
@@ -103,7 +103,7 @@ module _ {lo hi : ℤ} {flow : Flow} (l : Legal lo hi flow) (nt nv : ℕ) (more-
   numbered-wider (target n) h = tt
   numbered-wider (constant c) h = tt
 
-  pub legal-wider : Legal lo hi (wider nt nv flow)
+  pub legal-wider : LegalFlow lo hi (wider nt nv flow)
   legal-wider = record {
     zero = l .zero;
     numbers = λ i. all-weaker (Numbered flow) (Numbered wide) numbered-wider (fields (instruction flow i)) (l .numbers i);
@@ -125,14 +125,14 @@ module _ {lo hi : ℤ} {flow : Flow} (l : Legal lo hi flow) (nt nv : ℕ) (more-
   taken-pad ex [] a v p m ha hv s k = rw (set-append-left (s .ended) unmet a true (omega (arith, k .ends-count)))
   taken-pad ex (x ∷ rest) a v p m ha hv s k = rw (assign-pad v x hv s k, set-append-left (s .left) ex a rest (omega (arith, k .tapes-count)))
 
-  step-pad : (ex : List (List ℤ)) (w : View) → Sound lo hi flow w → (s : State) → Fair flow s → stepView w (pad ex s) ≡ pad ex (stepView w s)
+  step-pad : (ex : List (List ℤ)) (w : View) → SoundView lo hi flow w → (s : State) → Fair flow s → stepView w (pad ex s) ≡ pad ex (stepView w s)
   step-pad ex (reads a v p m) h s k = rw (tape-pad ex a (h .0) s k) (taken-pad ex (onTape s a) a v p m (h .0) (h .1) s k)
   step-pad ex (sets t v n) h s k = rw (term-pad t (h .0) s k, assign-pad v (term (s .variables) t) (h .1) s k)
   step-pad ex (tests x y p m) h s k = rw (term-pad x (h .0) s k, term-pad y (h .1) s k)
   step-pad ex (goes n) h s k = refl
   step-pad ex stops h s k = refl
 
-  exit-pad : (ex : List (List ℤ)) (w : View) → Sound lo hi flow w → (s : State) → Fair flow s → exitView w (pad ex s) ≡ exitView w s
+  exit-pad : (ex : List (List ℤ)) (w : View) → SoundView lo hi flow w → (s : State) → Fair flow s → exitView w (pad ex s) ≡ exitView w s
   exit-pad ex (reads a v p m) h s k = ap (λ (q : List ℤ). some (exitIf (hasRecord q))) (tape-pad ex a (h .0) s k)
   exit-pad ex (sets t v n) h s k = refl
   exit-pad ex (tests x y p m) h s k = rw (term-pad x (h .0) s k, term-pad y (h .1) s k)

@@ -17,23 +17,23 @@ use Rattle.model.specs.Distance.{Takes}
 use Rattle.model.specs.Sample.{Near}
 use Rattle.model.proofs.Integers.{Inside}
 use Rattle.model.proofs.Lists.{all-set, set-map}
-use Rattle.model.proofs.View.{reads, viewAt, literal, at, Legal}
+use Rattle.model.proofs.View.{reads, viewAt, literal, laneValue, LegalFlow}
 use Rattle.model.proofs.Alike.{Alike, alike-sym, alike-trans, alike-set, fits-term}
 use Rattle.model.proofs.Side.{spread, inside-near}
 use Rattle.model.proofs.Ranks.{pattern-alike, alike-spread, alike-pattern}
 use Rattle.model.proofs.Room.{Room, room}
 use Rattle.model.proofs.Runs.{append}
 use Rattle.model.proofs.Graph.{resting, trial, fedWith, Edge, still, fed, origin, Reach, first, further, silent-resting, silent-step}
-use Rattle.model.proofs.Follow.{Stands, stands-start, stands-silent, takes-silent, takes-fed, stands-fed}
+use Rattle.model.proofs.Follow.{RunStands, stands-start, stands-silent, takes-silent, takes-fed, stands-fed}
 
 -- after n steps, r of which read a record, the run on the tapes stands at c with the values v
 pub record Follows (lo hi : ℤ) (flow : Flow) (n r : ℕ) (tapes : List (List ℤ)) (v : List ℤ) (c : Configuration) : Type 0 where
-  pub stands : Stands lo hi flow n r tapes (c .next) v (c .ended)
+  pub stands : RunStands lo hi flow n r tapes (c .next) v (c .ended)
   pub marks : pattern lo hi v ≡ c .marks
 
 -- with f and x, lane u of the values v becomes what it is in w
 abbrev pub Grants : (lo hi : ℤ) → ℕ → (w v : List ℤ) → (ℤ → ℤ) → ℤ → Type 0
-Grants lo hi u w v f x = Room lo hi (set w u (pos 0)) (set v u (pos 0)) (at w u) f x
+Grants lo hi u w v f x = Room lo hi (set w u (pos 0)) (set v u (pos 0)) (laneValue w u) f x
 
 module _ {lo hi : ℤ} (z : Inside lo hi (pos 0)) (u : ℕ) where
   erased : {v w : List ℤ} → Alike lo hi v w → Alike lo hi (set v u (pos 0)) (set w u (pos 0))
@@ -41,13 +41,13 @@ module _ {lo hi : ℤ} (z : Inside lo hi (pos 0)) (u : ℕ) where
 
   granted : (w v : List ℤ) (f : ℤ → ℤ) (x : ℤ) → Grants lo hi u w v f x → Alike lo hi w (set (map f v) u x)
   granted w v f x q =
-      let left : set (set w u (pos 0)) u (at w u) ≡ w = set-set w u (pos 0) (at w u) ∙ set-getD w u (pos 0) in
+      let left : set (set w u (pos 0)) u (laneValue w u) ≡ w = set-set w u (pos 0) (laneValue w u) ∙ set-getD w u (pos 0) in
       let right : set (map f (set v u (pos 0))) u x ≡ set (map f v) u x
       = ap (λ (r : List ℤ). set r u x) (sym (set-map f v u (pos 0))) ∙ set-set (map f v) u (f (pos 0)) x in
       subst (λ (r : List ℤ). Alike lo hi r (set (map f v) u x)) left
-      (subst (λ (r : List ℤ). Alike lo hi (set (set w u (pos 0)) u (at w u)) r) right (alike-set u (q .alike) (q .fits)))
+      (subst (λ (r : List ℤ). Alike lo hi (set (set w u (pos 0)) u (laneValue w u)) r) right (alike-set u (q .alike) (q .fits)))
 
-module _ {lo hi : ℤ} {flow : Flow} (l : Legal lo hi flow) where
+module _ {lo hi : ℤ} {flow : Flow} (l : LegalFlow lo hi flow) where
   pub follows-start : Follows lo hi flow 0 0 (replicate (flow .tapes) []) (replicate (flow .variables) (pos 0)) (origin lo hi flow)
   follows-start = record { stands = stands-start l; marks = refl }
 
@@ -71,7 +71,7 @@ module _ {lo hi : ℤ} {flow : Flow} (l : Legal lo hi flow) where
         let goes : configuration lo hi after ≡ configuration lo hi (step flow (trial lo hi flow c))
         = sym (silent .1) ∙ ap (λ (d : Configuration). configuration lo hi (step flow (trial lo hi flow d))) same in
         record {
-          stands = subst (λ (d : Configuration). Stands lo hi flow (suc n) r tapes (d .next) (after .variables) (d .ended)) goes
+          stands = subst (λ (d : Configuration). RunStands lo hi flow (suc n) r tapes (d .next) (after .variables) (d .ended)) goes
               (stands-silent l (q .stands));
           marks = ap (λ (d : Configuration). d .marks) goes;
         }
@@ -107,7 +107,7 @@ pub record Real (lo hi : ℤ) (flow : Flow) (n : ℕ) (c : Configuration) : Type
   pub values : List ℤ
   pub follows : Follows lo hi flow n r tapes values c
 
-module _ {lo hi : ℤ} {flow : Flow} (l : Legal lo hi flow) where
+module _ {lo hi : ℤ} {flow : Flow} (l : LegalFlow lo hi flow) where
   pub extend : (n : ℕ) (c c′ : Configuration) (o : Option Exit) → Real lo hi flow n c → Edge lo hi flow c o c′
       → (q : Real lo hi flow (suc n) c′) × ((x : Exit) → o ≡ some x → Takes flow (q .tapes) (c .next) x (suc n))
   extend n c c′ o q still = (
@@ -116,7 +116,7 @@ module _ {lo hi : ℤ} {flow : Flow} (l : Legal lo hi flow) where
   )
   extend n c c′ o q (fed a u p m y i open-still near) =
       let w = set (spread lo hi (c .marks)) u y in
-      let (f, x, g) = room (l .zero) (wish-like l (q .follows) u p y w refl) (at w u) in
+      let (f, x, g) = room (l .zero) (wish-like l (q .follows) u p y w refl) (laneValue w u) in
       let takes = takes-fed l (q .follows .stands) a u p m i open-still f (g .faithful) x in
       let tapes = append (map (map f) (q .tapes)) a x in
       let follows = follows-fed l (q .follows) u p y w refl a m i open-still f x g in (

@@ -11,7 +11,7 @@ use Rattle.model.specs.Language.{Flow}
 use Rattle.model.specs.Machine.{Exit}
 use Rattle.model.specs.Distance.{Distance, NoDistance}
 use Rattle.model.specs.Configuration.{Configuration, Census}
-use Rattle.model.proofs.View.{Legal}
+use Rattle.model.proofs.View.{LegalFlow}
 use Rattle.model.proofs.Graph.{Edge, origin, Reach, first, further}
 use Rattle.model.proofs.Theorems.{Leads, distance-of-paths, none-of-paths, reachable-reach, reach-reachable}
 
@@ -31,7 +31,7 @@ module _ {lo hi : ℤ} {flow : Flow} where
   reach-of-path here = first
   reach-of-path (onward {n = n} {k = k} {y = y} p x e) = subst (λ (m : ℕ). Reach lo hi flow m y) (sym (e ∙ add-one n)) (further (reach-of-path p) x)
 
-  leads-of-exit : {i : ℕ} {e : Exit} {d : ℕ} → Rattle.graph.specs.Graph.Exit (configurations lo hi flow) (Taking i e) d → Leads lo hi flow i e d
+  leads-of-exit : {i : ℕ} {e : Exit} {d : ℕ} → Rattle.graph.specs.Graph.ExitPath (configurations lo hi flow) (Taking i e) d → Leads lo hi flow i e d
   leads-of-exit x = record {
     before = x .before;
     last = x .total ∙ add-one (x .before);
@@ -42,7 +42,7 @@ module _ {lo hi : ℤ} {flow : Flow} where
     edge = subst (λ (o : Option Exit). Edge lo hi flow (x .from) o (x .target)) (x .wanted .1) (x .edge);
   }
 
-  exit-of-leads : {i : ℕ} {e : Exit} {d : ℕ} → Leads lo hi flow i e d → Rattle.graph.specs.Graph.Exit (configurations lo hi flow) (Taking i e) d
+  exit-of-leads : {i : ℕ} {e : Exit} {d : ℕ} → Leads lo hi flow i e d → Rattle.graph.specs.Graph.ExitPath (configurations lo hi flow) (Taking i e) d
   exit-of-leads {e = e} p = record {
     from = p .from;
     label = some e;
@@ -54,7 +54,7 @@ module _ {lo hi : ℤ} {flow : Flow} where
     total = p .last ∙ sym (add-one (p .before));
   }
 
-module _ {lo hi : ℤ} {flow : Flow} (l : Legal lo hi flow) where
+module _ {lo hi : ℤ} {flow : Flow} (l : LegalFlow lo hi flow) where
   pub distance-of-exit : (i : ℕ) (e : Exit) (d : ℕ) → ExitDistance (configurations lo hi flow) (Taking i e) d → Distance flow i e d
   distance-of-exit i e d x = distance-of-paths l i e d (leads-of-exit (x .exit)) (λ k p. x .least k (exit-of-leads p))
 

@@ -14,9 +14,9 @@ use lib.Dec.{T}
 use Rattle.model.specs.Pattern.{Mark, inside, equal, among, different, rank, mark, pattern}
 use Rattle.model.proofs.Integers.{zarith, lt-out, true-in, true-out, false-out, and-in, and-out, or-in, or-right, Inside}
 use Rattle.model.proofs.Lists.{getD-map}
-use Rattle.model.proofs.View.{Term, held, literal, at, term, Known}
+use Rattle.model.proofs.View.{Term, held, literal, laneValue, term, Known}
 use Rattle.model.proofs.Alike.{Alike, alike-sym, alike-trans}
-use Rattle.model.proofs.Side.{place, spread, moved, mark-inside, moved-inside, Side, upper, lower, side}
+use Rattle.model.proofs.Side.{place, spread, spreadValue, mark-inside, moved-inside, Side, upper, lower, side}
 use Rattle.model.proofs.Side.{Zone, beyond, within, zone, Tell, far, same, near, tell}
 
 pub equal-in : (x y : ℤ) → T (equal x y) → x ≡ y
@@ -26,15 +26,15 @@ pub equal-out : (x y : ℤ) → x ≡ y → T (equal x y)
 equal-out x y e = and-out (not (ltZ x y)) (not (ltZ y x)) (omega zarith) (omega zarith)
 
 -- ---- the count of different values depends on tests alone
-among-same : (x y : ℤ) (v w : List ℤ) → length v ≡ length w → ((i : ℕ) → equal x (at v i) ≡ equal y (at w i)) → among x v ≡ among y w
+among-same : (x y : ℤ) (v w : List ℤ) → length v ≡ length w → ((i : ℕ) → equal x (laneValue v i) ≡ equal y (laneValue w i)) → among x v ≡ among y w
 unfolding among
 among-same x y [] [] h f = refl
 among-same x y [] (b ∷ w) h f = absurd (omega arith)
 among-same x y (a ∷ v) [] h f = absurd (omega arith)
 among-same x y (a ∷ v) (b ∷ w) h f = ap₂ _||_ (f 0) (among-same x y v w (omega arith) (λ i. f (suc i)))
 
-different-same : (p q : ℤ → Bool) (v w : List ℤ) → length v ≡ length w → ((i : ℕ) → p (at v i) ≡ q (at w i))
-    → ((i j : ℕ) → equal (at v i) (at v j) ≡ equal (at w i) (at w j)) → different p v ≡ different q w
+different-same : (p q : ℤ → Bool) (v w : List ℤ) → length v ≡ length w → ((i : ℕ) → p (laneValue v i) ≡ q (laneValue w i))
+    → ((i j : ℕ) → equal (laneValue v i) (laneValue v j) ≡ equal (laneValue w i) (laneValue w j)) → different p v ≡ different q w
 unfolding different
 different-same p q [] [] h f g = refl
 different-same p q [] (b ∷ w) h f g = absurd (omega arith)
@@ -103,11 +103,11 @@ module _ {lo hi : ℤ} (z : Inside lo hi (pos 0)) (S : Side lo hi) where
       go false e = tt
 
   -- a value beyond the edge is one of the list
-  among-at : (v : List ℤ) (i : ℕ) → T (less edge (at v i)) → T (among (at v i) v)
+  among-at : (v : List ℤ) (i : ℕ) → T (less edge (laneValue v i)) → T (among (laneValue v i) v)
   unfolding among
   among-at [] i h = absurd (omega (arith, lt-i, inner (pos 0) z))
   among-at (a ∷ v) zero h = rw (true-out (equal a a) (equal-out a a refl)) tt
-  among-at (a ∷ v) (suc i) h = or-right (equal (at v i) a) (among (at v i) v) (among-at v i h)
+  among-at (a ∷ v) (suc i) h = or-right (equal (laneValue v i) a) (among (laneValue v i) v) (among-at v i h)
 
   pub among-term : (v : List ℤ) (t : Term) → Known lo hi t → T (less edge (term v t)) → T (among (term v t) v)
   among-term v (held i) k h = among-at v i h
@@ -128,45 +128,45 @@ module _ {lo hi : ℤ} (z : Inside lo hi (pos 0)) (S : Side lo hi) where
       omega (arith, different-lt (λ u. false) (λ u. less edge u && not (less y u)) v y (λ u r. absurd r) m self tt)
 
   pub moved-beyond : (v : List ℤ) (x : ℤ) → T (less edge x)
-      → out (moved lo hi v x) + back edge ≡ (out edge + 2 * rank less edge v x) + back (moved lo hi v x)
+      → out (spreadValue lo hi v x) + back edge ≡ (out edge + 2 * rank less edge v x) + back (spreadValue lo hi v x)
   moved-beyond v x h = rw (marked v x h) (placed (rank less edge v x))
 
   -- the spread keeps the order beyond the edge
-  moved-further : (v : List ℤ) (x y : ℤ) → T (less x y) → T (less edge y) → T (among y v) → T (less (moved lo hi v x) (moved lo hi v y))
+  moved-further : (v : List ℤ) (x y : ℤ) → T (less x y) → T (less edge y) → T (among y v) → T (less (spreadValue lo hi v x) (spreadValue lo hi v y))
   moved-further v x y h k m = go (less edge x) refl
     where
-      go : (b : Bool) → less edge x ≡ b → T (less (moved lo hi v x) (moved lo hi v y))
-      go true e = lt-o (moved lo hi v x) (moved lo hi v y)
+      go : (b : Bool) → less edge x ≡ b → T (less (spreadValue lo hi v x) (spreadValue lo hi v y))
+      go true e = lt-o (spreadValue lo hi v x) (spreadValue lo hi v y)
           (omega (arith, rank-lt v x y h k m, moved-beyond v x (true-in (less edge x) e), moved-beyond v y k))
-      go false e = lt-o (moved lo hi v x) (moved lo hi v y) (omega (arith, rank-pos v y k m, stays v x e, moved-beyond v y k))
+      go false e = lt-o (spreadValue lo hi v x) (spreadValue lo hi v y) (omega (arith, rank-pos v y k m, stays v x e, moved-beyond v y k))
 
   -- alike valuations give their values one mark
-  mark-beyond : (v w : List ℤ) → Alike lo hi v w → (i : ℕ) → T (less edge (at v i)) → mark lo hi v (at v i) ≡ mark lo hi w (at w i)
-  mark-beyond v w k i h = marked v (at v i) h ∙ ap tag ranks ∙ sym (marked w (at w i) (subst T (order k (literal edge) (held i) edge-in tt) h))
+  mark-beyond : (v w : List ℤ) → Alike lo hi v w → (i : ℕ) → T (less edge (laneValue v i)) → mark lo hi v (laneValue v i) ≡ mark lo hi w (laneValue w i)
+  mark-beyond v w k i h = marked v (laneValue v i) h ∙ ap tag ranks ∙ sym (marked w (laneValue w i) (subst T (order k (literal edge) (held i) edge-in tt) h))
     where
-      ranks : rank less edge v (at v i) ≡ rank less edge w (at w i)
-      ranks = different-same (λ u. less edge u && not (less (at v i) u)) (λ u. less edge u && not (less (at w i) u)) v w (k .size)
+      ranks : rank less edge v (laneValue v i) ≡ rank less edge w (laneValue w i)
+      ranks = different-same (λ u. less edge u && not (less (laneValue v i) u)) (λ u. less edge u && not (less (laneValue w i) u)) v w (k .size)
           (λ j. rw (order k (literal edge) (held j) edge-in tt, order k (held i) (held j) tt tt))
           (λ a b. rw (k .order (held a) (held b) tt tt, k .order (held b) (held a) tt tt))
 
 module _ {lo hi : ℤ} (z : Inside lo hi (pos 0)) where
-  mark-alike : (v w : List ℤ) → Alike lo hi v w → (i : ℕ) → mark lo hi v (at v i) ≡ mark lo hi w (at w i)
-  mark-alike v w k i = go (zone z (at v i))
+  mark-alike : (v w : List ℤ) → Alike lo hi v w → (i : ℕ) → mark lo hi v (laneValue v i) ≡ mark lo hi w (laneValue w i)
+  mark-alike v w k i = go (zone z (laneValue v i))
     where
       fails-too : {b c : Bool} → b ≡ c → T (not b) → T (not c)
       fails-too e h = subst (λ (d : Bool). T (not d)) e h
 
-      go : Zone z (at v i) → mark lo hi v (at v i) ≡ mark lo hi w (at w i)
+      go : Zone z (laneValue v i) → mark lo hi v (laneValue v i) ≡ mark lo hi w (laneValue w i)
       go (beyond b h) = mark-beyond z (side z b) v w k i h
-      go (within h) = mark-inside lo hi v (at v i) h ∙ ap inside e ∙ sym (mark-inside lo hi w (at w i) (subst (Inside lo hi) e h))
+      go (within h) = mark-inside lo hi v (laneValue v i) h ∙ ap inside e ∙ sym (mark-inside lo hi w (laneValue w i) (subst (Inside lo hi) e h))
         where
-          e : at v i ≡ at w i
+          e : laneValue v i ≡ laneValue w i
           e =
-              let p = fails-too (k .order (literal (at v i)) (held i) h tt) (omega zarith) in
-              let q = fails-too (k .order (held i) (literal (at v i)) tt h) (omega zarith) in
+              let p = fails-too (k .order (literal (laneValue v i)) (held i) h tt) (omega zarith) in
+              let q = fails-too (k .order (held i) (literal (laneValue v i)) tt h) (omega zarith) in
               omega zarith
 
-  mark-at : (v : List ℤ) (i : ℕ) → getD (map (mark lo hi v) v) i (inside (pos 0)) ≡ mark lo hi v (at v i)
+  mark-at : (v : List ℤ) (i : ℕ) → getD (map (mark lo hi v) v) i (inside (pos 0)) ≡ mark lo hi v (laneValue v i)
   mark-at v i = getD-map (mark lo hi v) v i (pos 0) (inside (pos 0)) (mark-inside lo hi v (pos 0) z)
 
   pub pattern-alike : {v w : List ℤ} → Alike lo hi v w → pattern lo hi v ≡ pattern lo hi w
@@ -177,10 +177,10 @@ module _ {lo hi : ℤ} (z : Inside lo hi (pos 0)) where
 
   -- ---- a valuation is alike to its spread
   moved-lt : (v : List ℤ) (s t : Term) → Known lo hi s → Known lo hi t → T (ltZ (term v s) (term v t))
-      → T (ltZ (moved lo hi v (term v s)) (moved lo hi v (term v t)))
+      → T (ltZ (spreadValue lo hi v (term v s)) (spreadValue lo hi v (term v t)))
   moved-lt v s t j k h = go (ltZ hi (term v t)) (ltZ (term v s) lo) refl refl
     where
-      go : (a b : Bool) → ltZ hi (term v t) ≡ a → ltZ (term v s) lo ≡ b → T (ltZ (moved lo hi v (term v s)) (moved lo hi v (term v t)))
+      go : (a b : Bool) → ltZ hi (term v t) ≡ a → ltZ (term v s) lo ≡ b → T (ltZ (spreadValue lo hi v (term v s)) (spreadValue lo hi v (term v t)))
       go true b e f =
           let q = true-in (ltZ hi (term v t)) e in
           moved-further z (upper z) v (term v s) (term v t) h q (among-term z (upper z) v t k q)
@@ -193,23 +193,23 @@ module _ {lo hi : ℤ} (z : Inside lo hi (pos 0)) where
           rw (moved-inside lo hi v (term v s) p, moved-inside lo hi v (term v t) q) h
 
   moved-order : (v : List ℤ) (s t : Term) → Known lo hi s → Known lo hi t
-      → ltZ (moved lo hi v (term v s)) (moved lo hi v (term v t)) ≡ ltZ (term v s) (term v t)
+      → ltZ (spreadValue lo hi v (term v s)) (spreadValue lo hi v (term v t)) ≡ ltZ (term v s) (term v t)
   moved-order v s t j k = go (tell (upper z) (term v s) (term v t))
     where
       Same : Type 0
-      Same = ltZ (moved lo hi v (term v s)) (moved lo hi v (term v t)) ≡ ltZ (term v s) (term v t)
+      Same = ltZ (spreadValue lo hi v (term v s)) (spreadValue lo hi v (term v t)) ≡ ltZ (term v s) (term v t)
 
-      never : T (not (ltZ (moved lo hi v (term v s)) (moved lo hi v (term v t)))) → T (not (ltZ (term v s) (term v t))) → Same
-      never p q = false-out (ltZ (moved lo hi v (term v s)) (moved lo hi v (term v t))) p ∙ sym (false-out (ltZ (term v s) (term v t)) q)
+      never : T (not (ltZ (spreadValue lo hi v (term v s)) (spreadValue lo hi v (term v t)))) → T (not (ltZ (term v s) (term v t))) → Same
+      never p q = false-out (ltZ (spreadValue lo hi v (term v s)) (spreadValue lo hi v (term v t))) p ∙ sym (false-out (ltZ (term v s) (term v t)) q)
 
       go : Tell (upper z) (term v s) (term v t) → Same
       go (far h) =
           let q = lt-out (term v s) (term v t) h in
-          true-out (ltZ (moved lo hi v (term v s)) (moved lo hi v (term v t))) (moved-lt v s t j k q) ∙ sym (true-out (ltZ (term v s) (term v t)) q)
-      go (same e) = let q = ap (moved lo hi v) e in never (omega zarith) (omega zarith)
+          true-out (ltZ (spreadValue lo hi v (term v s)) (spreadValue lo hi v (term v t))) (moved-lt v s t j k q) ∙ sym (true-out (ltZ (term v s) (term v t)) q)
+      go (same e) = let q = ap (spreadValue lo hi v) e in never (omega zarith) (omega zarith)
       go (near h) = let q = moved-lt v t s k j (lt-out (term v t) (term v s) h) in never (omega zarith) (omega zarith)
 
-  pub term-spread : (v : List ℤ) (t : Term) → Known lo hi t → term (spread lo hi (pattern lo hi v)) t ≡ moved lo hi v (term v t)
+  pub term-spread : (v : List ℤ) (t : Term) → Known lo hi t → term (spread lo hi (pattern lo hi v)) t ≡ spreadValue lo hi v (term v t)
   unfolding spread pattern place
   term-spread v (held i) h =
       getD-map (place lo hi) (map (mark lo hi v) v) i (inside (pos 0)) (pos 0) refl ∙ ap (place lo hi) (mark-at v i)

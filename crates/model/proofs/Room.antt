@@ -12,16 +12,16 @@ use lib.Dec.{T}
 use Rattle.model.specs.Sample.{Near}
 use Rattle.model.proofs.Integers.{true-in, Inside}
 use Rattle.model.proofs.Lists.{All, all-getD}
-use Rattle.model.proofs.View.{Term, held, literal, at, term, Known}
+use Rattle.model.proofs.View.{Term, held, literal, laneValue, term, Known}
 use Rattle.model.proofs.Faithful.{Faithful, term-map}
 use Rattle.model.proofs.Alike.{Alike, alike-trans, alike-map, Fits, fits-term}
 use Rattle.model.proofs.Side.{Nearer, near-wider, inside-near, Side, side, Zone, beyond, within, zone, same-less, Tell, far, same, near, tell}
 
 -- v holds x, or not
 abbrev pub Absent : List ℤ → ℤ → Type 0
-Absent v x = (i : ℕ) → at v i ≡ x → ⊥
+Absent v x = (i : ℕ) → laneValue v i ≡ x → ⊥
 
-pub holds : (v : List ℤ) (x : ℤ) → (pos 0 ≡ x → ⊥) → ((i : ℕ) × (at v i ≡ x)) ⊎ Absent v x
+pub holds : (v : List ℤ) (x : ℤ) → (pos 0 ≡ x → ⊥) → ((i : ℕ) × (laneValue v i ≡ x)) ⊎ Absent v x
 holds [] x nz = inr (λ i e. nz e)
 holds (a ∷ v) x nz = go (ℤ-discrete a x) (holds v x nz)
   where
@@ -29,7 +29,7 @@ holds (a ∷ v) x nz = go (ℤ-discrete a x) (holds v x nz)
     absent f g zero e = f e
     absent f g (suc i) e = g i e
 
-    go : Dec (a ≡ x) → ((i : ℕ) × (at v i ≡ x)) ⊎ Absent v x → ((i : ℕ) × (at (a ∷ v) i ≡ x)) ⊎ Absent (a ∷ v) x
+    go : Dec (a ≡ x) → ((i : ℕ) × (laneValue v i ≡ x)) ⊎ Absent v x → ((i : ℕ) × (laneValue (a ∷ v) i ≡ x)) ⊎ Absent (a ∷ v) x
     go (yes e) r = inl (zero, e)
     go (no f) (inl (i, e)) = inl (suc i, e)
     go (no f) (inr g) = inr (absent f g)
@@ -45,11 +45,11 @@ module _ {lo hi : ℤ} (S : Side lo hi) where
 
   -- t is m, or a w i whose v i lies before x
   abbrev pub Source : (m : ℤ) → List ℤ → List ℤ → (x t : ℤ) → Type 0
-  Source m v w x t = (t ≡ m) ⊎ ((i : ℕ) × T (less (at v i) x) × (t ≡ at w i))
+  Source m v w x t = (t ≡ m) ⊎ ((i : ℕ) × T (less (laneValue v i) x) × (t ≡ laneValue w i))
 
   -- t is no nearer than the w i whose v i lies before x
   abbrev pub Covers : List ℤ → List ℤ → (x t : ℤ) → Type 0
-  Covers v w x t = (i : ℕ) → T (less (at v i) x) → out (at w i) + back t ≤ out t + back (at w i)
+  Covers v w x t = (i : ℕ) → T (less (laneValue v i) x) → out (laneValue w i) + back t ≤ out t + back (laneValue w i)
 
   -- t is the furthest of m and the w i whose v i lies before x
   pub record Top (m : ℤ) (v w : List ℤ) (x t : ℤ) : Type 0 where
@@ -57,7 +57,7 @@ module _ {lo hi : ℤ} (S : Side lo hi) where
     pub covers : Covers v w x t
     pub is : Source m v w x t
 
-  pub top-is : (m : ℤ) (v w : List ℤ) (x t : ℤ) → Top m v w x t → (P : ℤ → Type 0) → P m → ((i : ℕ) → T (less (at v i) x) → P (at w i)) → P t
+  pub top-is : (m : ℤ) (v w : List ℤ) (x t : ℤ) → Top m v w x t → (P : ℤ → Type 0) → P m → ((i : ℕ) → T (less (laneValue v i) x) → P (laneValue w i)) → P t
   top-is m v w x t r P p f = go (r .is)
     where
       go : Source m v w x t → P t
@@ -117,7 +117,7 @@ module _ {lo hi : ℤ} (S : Side lo hi) where
           beyond-t : T (less t (term w s))
           beyond-t = top-is edge v w x t r (λ u. T (less u (term w s)))
               (subst T (order k (literal edge) s edge-in j) (lt-o edge (term v s) (omega (arith, lt-i))))
-              (λ i q. subst T (order k (held i) s tt j) (lt-o (at v i) (term v s) (omega (arith, lt-i))))
+              (λ i q. subst T (order k (held i) s tt j) (lt-o (laneValue v i) (term v s) (omega (arith, lt-i))))
 
           go : Tell S y (term w s) → Nearer S y (term w s)
           go (far q) = q
@@ -125,7 +125,7 @@ module _ {lo hi : ℤ} (S : Side lo hi) where
           go (near q) = absurd (omega (arith, next-is t, lt-i t (term w s) beyond-t))
 
       under : (s : Term) → Known lo hi s → Nearer S (term v s) x → Nearer S (term w s) y
-      under (held i) j h = omega (arith, next-is t, r .covers i (lt-o (at v i) x h))
+      under (held i) j h = omega (arith, next-is t, r .covers i (lt-o (laneValue v i) x h))
       under (literal c) j h = omega (arith, next-is t, inner c j, r .from)
 
       before : (s : Term) → Known lo hi s → Tell S x (term v s) → less x (term v s) ≡ less y (term w s)
@@ -227,11 +227,11 @@ module _ {lo hi : ℤ} (z : Inside lo hi (pos 0)) {w v : List ℤ} (k : Alike lo
         alike : Alike lo hi w (map (shift S t) v)
         alike = alike-trans k (alike-map (shift S t) z faithful v)
 
-        at-shifted : (i : ℕ) → at (map (shift S t) v) i ≡ shift S t (at v i)
+        at-shifted : (i : ℕ) → laneValue (map (shift S t) v) i ≡ shift S t (laneValue v i)
         at-shifted i = term-map lo hi (shift S t) z faithful v (held i) tt
 
-        still : (i : ℕ) → T (less (at w i) y) → at (map (shift S t) v) i ≡ at v i
-        still i j = at-shifted i ∙ shift-fixes S t (at v i) (r .covers i j)
+        still : (i : ℕ) → T (less (laneValue w i) y) → laneValue (map (shift S t) v) i ≡ laneValue v i
+        still i j = at-shifted i ∙ shift-fixes S t (laneValue v i) (r .covers i j)
 
         held-still : Source S edge w v y t → Source S edge w (map (shift S t) v) y t
         held-still (inl e) = inl e
@@ -241,23 +241,23 @@ module _ {lo hi : ℤ} (z : Inside lo hi (pos 0)) {w v : List ℤ} (k : Alike lo
         shifted = record { from = r .from; covers = λ i j. rw (still i j) (r .covers i j); is = held-still (r .is) }
 
         free : Absent (map (shift S t) v) (next t)
-        free i e = go (tell S t (at v i))
+        free i e = go (tell S t (laneValue v i))
           where
-            stays : out (at v i) + back t ≤ out t + back (at v i) → ⊥
-            stays j = omega (arith, next-is t, eq-i (at v i) (next t) (sym (shift-fixes S t (at v i) j) ∙ sym (at-shifted i) ∙ e))
+            stays : out (laneValue v i) + back t ≤ out t + back (laneValue v i) → ⊥
+            stays j = omega (arith, next-is t, eq-i (laneValue v i) (next t) (sym (shift-fixes S t (laneValue v i) j) ∙ sym (at-shifted i) ∙ e))
 
-            go : Tell S t (at v i) → ⊥
+            go : Tell S t (laneValue v i) → ⊥
             go (far j) =
-                let q = sym (shift-moves S t (at v i) j) ∙ sym (at-shifted i) ∙ e in
-                omega (arith, next-is t, next-is (at v i), eq-i (next (at v i)) (next t) q)
+                let q = sym (shift-moves S t (laneValue v i) j) ∙ sym (at-shifted i) ∙ e in
+                omega (arith, next-is t, next-is (laneValue v i), eq-i (next (laneValue v i)) (next t) q)
             go (same j) = stays (omega (arith, eq-i))
             go (near j) = stays (omega arith)
 
     room-side : (y : ℤ) → T (less edge y) → (f : ℤ → ℤ) × (x : ℤ) × Room lo hi w v y f x
     room-side y h = go (holds w y (λ e. omega (arith, lt-i, eq-i, inner (pos 0) z)))
       where
-        go : ((i : ℕ) × (at w i ≡ y)) ⊎ Absent w y → (f : ℤ → ℤ) × (x : ℤ) × Room lo hi w v y f x
-        go (inl (i, e)) = (λ u. u, at v i, subst (λ (q : ℤ). Room lo hi w v q (λ u. u) (at v i)) e (room-term (held i) tt))
+        go : ((i : ℕ) × (laneValue w i ≡ y)) ⊎ Absent w y → (f : ℤ → ℤ) × (x : ℤ) × Room lo hi w v y f x
+        go (inl (i, e)) = (λ u. u, laneValue v i, subst (λ (q : ℤ). Room lo hi w v q (λ u. u) (laneValue v i)) e (room-term (held i) tt))
         go (inr none) =
             let t = furthest less edge y w v in
             (shift S t, next t, room-beyond y t h none (top S edge (inner (pos 0) z) w v y (k .size)))

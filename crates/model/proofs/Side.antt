@@ -25,14 +25,14 @@ place lo hi (below k) = lo +ℤ negℤ (pos (2 * k))
 unfoldable pub spread : (lo hi : ℤ) → List Mark → List ℤ
 spread lo hi marks = map (place lo hi) marks
 
-abbrev pub moved : (lo hi : ℤ) → List ℤ → ℤ → ℤ
-moved lo hi v x = place lo hi (mark lo hi v x)
+abbrev pub spreadValue : (lo hi : ℤ) → List ℤ → ℤ → ℤ
+spreadValue lo hi v x = place lo hi (mark lo hi v x)
 
 pub mark-inside : (lo hi : ℤ) (v : List ℤ) (x : ℤ) → Inside lo hi x → mark lo hi v x ≡ inside x
 unfolding mark
 mark-inside lo hi v x h = rw (false-out (ltZ hi x) (omega zarith), false-out (ltZ x lo) (omega zarith))
 
-pub moved-inside : (lo hi : ℤ) (v : List ℤ) (x : ℤ) → Inside lo hi x → moved lo hi v x ≡ x
+pub moved-inside : (lo hi : ℤ) (v : List ℤ) (x : ℤ) → Inside lo hi x → spreadValue lo hi v x ≡ x
 unfolding place
 moved-inside lo hi v x h = rw (mark-inside lo hi v x h)
 
@@ -78,7 +78,7 @@ pub record Side (lo hi : ℤ) : Type 0 where
   pub tag : ℕ → Mark
   pub marked : (v : List ℤ) (x : ℤ) → T (less edge x) → mark lo hi v x ≡ tag (rank less edge v x)
   pub placed : (k : ℕ) → out (place lo hi (tag k)) + back edge ≡ (out edge + 2 * k) + back (place lo hi (tag k))
-  pub stays : (v : List ℤ) (x : ℤ) → less edge x ≡ false → out (moved lo hi v x) + back edge ≤ out edge + back (moved lo hi v x)
+  pub stays : (v : List ℤ) (x : ℤ) → less edge x ≡ false → out (spreadValue lo hi v x) + back edge ≤ out edge + back (spreadValue lo hi v x)
 
 module _ {lo hi : ℤ} (z : Inside lo hi (pos 0)) where
   pub above-mark : (v : List ℤ) (x : ℤ) → T (ltZ hi x) → mark lo hi v x ≡ above (rank ltZ hi v x)
@@ -97,17 +97,17 @@ module _ {lo hi : ℤ} (z : Inside lo hi (pos 0)) where
   unfolding place
   below-placed k = omega (arith, sub-pos lo (2 * k))
 
-  pub not-above : (v : List ℤ) (x : ℤ) → ltZ hi x ≡ false → up (moved lo hi v x) + dn hi ≤ up hi + dn (moved lo hi v x)
+  pub not-above : (v : List ℤ) (x : ℤ) → ltZ hi x ≡ false → up (spreadValue lo hi v x) + dn hi ≤ up hi + dn (spreadValue lo hi v x)
   not-above v x h = go (ltZ x lo) refl
     where
-      go : (b : Bool) → ltZ x lo ≡ b → up (moved lo hi v x) + dn hi ≤ up hi + dn (moved lo hi v x)
+      go : (b : Bool) → ltZ x lo ≡ b → up (spreadValue lo hi v x) + dn hi ≤ up hi + dn (spreadValue lo hi v x)
       go true e = rw (below-mark v x (omega zarith)) (omega (zarith, below-placed (rank (λ y u. ltZ u y) lo v x)))
       go false e = rw (moved-inside lo hi v x (record { low = omega zarith; high = omega zarith })) (omega zarith)
 
-  pub not-below : (v : List ℤ) (x : ℤ) → ltZ x lo ≡ false → dn (moved lo hi v x) + up lo ≤ dn lo + up (moved lo hi v x)
+  pub not-below : (v : List ℤ) (x : ℤ) → ltZ x lo ≡ false → dn (spreadValue lo hi v x) + up lo ≤ dn lo + up (spreadValue lo hi v x)
   not-below v x h = go (ltZ hi x) refl
     where
-      go : (b : Bool) → ltZ hi x ≡ b → dn (moved lo hi v x) + up lo ≤ dn lo + up (moved lo hi v x)
+      go : (b : Bool) → ltZ hi x ≡ b → dn (spreadValue lo hi v x) + up lo ≤ dn lo + up (spreadValue lo hi v x)
       go true e = rw (above-mark v x (omega zarith)) (omega (zarith, above-placed (rank ltZ hi v x)))
       go false e = rw (moved-inside lo hi v x (record { low = omega zarith; high = omega zarith })) (omega zarith)
 

@@ -12,7 +12,7 @@ use Rattle.model.specs.Distance.{Takes, Distance, NoDistance}
 use Rattle.model.specs.Pattern.{Mark}
 use Rattle.model.specs.Configuration.{Configuration, configuration, Reachable}
 use Rattle.model.specs.Sample.{Sample}
-use Rattle.model.proofs.View.{Legal}
+use Rattle.model.proofs.View.{LegalFlow}
 use Rattle.model.proofs.Runs.{fair-run}
 use Rattle.model.proofs.Graph.{Edge, Reach, reach-run, simulate}
 use Rattle.model.proofs.Follow.{stands-sample}
@@ -41,7 +41,7 @@ pub record Taken (lo hi : ℤ) (flow : Flow) (i : ℕ) (e : Exit) (d : ℕ) : Ty
   pub real : Real lo hi flow d to
   pub takes : Takes flow (real .tapes) i e d
 
-module _ {lo hi : ℤ} {flow : Flow} (l : Legal lo hi flow) where
+module _ {lo hi : ℤ} {flow : Flow} (l : LegalFlow lo hi flow) where
   pub takes-leads : (tapes : List (List ℤ)) → length tapes ≡ flow .tapes → (i : ℕ) (e : Exit) (d : ℕ) → Takes flow tapes i e d → Leads lo hi flow i e d
   takes-leads tapes h i e d t =
       let s = run flow tapes (t .before) in

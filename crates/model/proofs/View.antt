@@ -43,18 +43,18 @@ abbrev pub viewAt : Flow → ℕ → View
 viewAt flow i = view (instruction flow i)
 
 -- the value in a lane, 0 past the end; a term's value; what is left of a tape
-abbrev pub at : List ℤ → ℕ → ℤ
-at l i = getD l i (pos 0)
+abbrev pub laneValue : List ℤ → ℕ → ℤ
+laneValue l i = getD l i (pos 0)
 
 abbrev pub term : List ℤ → Term → ℤ
-term l (held u) = at l u
+term l (held u) = laneValue l u
 term l (literal c) = c
 
 abbrev pub onTape : State → ℕ → List ℤ
 onTape s a = getD (s .left) a []
 
-abbrev pub assigned : ℕ → ℤ → ℕ → State → State
-assigned v x n s = record { next = n; variables = set (s .variables) v x; left = s .left; ended = s .ended }
+abbrev pub laneAssigned : ℕ → ℤ → ℕ → State → State
+laneAssigned v x n s = record { next = n; variables = set (s .variables) v x; left = s .left; ended = s .ended }
 
 abbrev pub taken : List ℤ → (a v p m : ℕ) → State → State
 taken [] a v p m s = record { next = m; variables = s .variables; left = s .left; ended = set (s .ended) a true }
@@ -62,7 +62,7 @@ taken (x ∷ rest) a v p m s = record { next = p; variables = set (s .variables)
 
 abbrev pub stepView : View → State → State
 stepView (reads a v p m) s = taken (onTape s a) a v p m s
-stepView (sets t v n) s = assigned v (term (s .variables) t) n s
+stepView (sets t v n) s = laneAssigned v (term (s .variables) t) n s
 stepView (tests x y p m) s = goTo (cond (ltZ (term (s .variables) x) (term (s .variables) y)) p m) s
 stepView (goes n) s = goTo n s
 stepView stops s = s
@@ -115,7 +115,7 @@ Numbered flow (variable v) = (0 < v) × (v ≤ flow .variables)
 Numbered flow (target n) = Unit {0}
 Numbered flow (constant c) = Unit {0}
 
-pub record Legal (lo hi : ℤ) (flow : Flow) : Type 0 where
+pub record LegalFlow (lo hi : ℤ) (flow : Flow) : Type 0 where
   pub zero : Inside lo hi (pos 0)
   pub numbers : (i : ℕ) → All (Numbered flow) (fields (instruction flow i))
   pub constants-inside : (i : ℕ) (c : ℤ) → In c (constants (fields (instruction flow i))) → Inside lo hi c
@@ -156,12 +156,12 @@ abbrev pub SoundTerm : (lo hi : ℤ) → Flow → Term → Type 0
 SoundTerm lo hi flow (held u) = u < flow .variables
 SoundTerm lo hi flow (literal c) = Inside lo hi c
 
-abbrev pub Sound : (lo hi : ℤ) → Flow → View → Type 0
-Sound lo hi flow (reads a v p m) = (a < flow .tapes) × (v < flow .variables)
-Sound lo hi flow (sets t v n) = SoundTerm lo hi flow t × (v < flow .variables)
-Sound lo hi flow (tests x y p m) = SoundTerm lo hi flow x × SoundTerm lo hi flow y
-Sound lo hi flow (goes n) = Unit {0}
-Sound lo hi flow stops = Unit {0}
+abbrev pub SoundView : (lo hi : ℤ) → Flow → View → Type 0
+SoundView lo hi flow (reads a v p m) = (a < flow .tapes) × (v < flow .variables)
+SoundView lo hi flow (sets t v n) = SoundTerm lo hi flow t × (v < flow .variables)
+SoundView lo hi flow (tests x y p m) = SoundTerm lo hi flow x × SoundTerm lo hi flow y
+SoundView lo hi flow (goes n) = Unit {0}
+SoundView lo hi flow stops = Unit {0}
 
 pub known : (lo hi : ℤ) (flow : Flow) (t : Term) → SoundTerm lo hi flow t → Known lo hi t
 known lo hi flow (held u) h = tt
@@ -171,7 +171,7 @@ lane : (n k : ℕ) → (0 < n) × (n ≤ k) → n - 1 < k
 lane n k (low, high) = omega arith
 
 sound-view : (lo hi : ℤ) (flow : Flow) (i : Instruction) → All (Numbered flow) (fields i) → ((c : ℤ) → In c (constants (fields i)) → Inside lo hi c)
-    → Sound lo hi flow (view i)
+    → SoundView lo hi flow (view i)
 unfolding constants
 sound-view lo hi flow (read a v p m) (h, (k, rest)) f = (lane a (flow .tapes) h, lane v (flow .variables) k)
 sound-view lo hi flow (put v y n) h f = tt
@@ -183,5 +183,5 @@ sound-view lo hi flow (under v c p m) (h, rest) f = (lane v (flow .variables) h,
 sound-view lo hi flow (nop n) h f = tt
 sound-view lo hi flow stop h f = tt
 
-pub sound : {lo hi : ℤ} {flow : Flow} → Legal lo hi flow → (i : ℕ) → Sound lo hi flow (viewAt flow i)
+pub sound : {lo hi : ℤ} {flow : Flow} → LegalFlow lo hi flow → (i : ℕ) → SoundView lo hi flow (viewAt flow i)
 sound {lo} {hi} {flow} l i = sound-view lo hi flow (instruction flow i) (l .numbers i) (l .constants-inside i)

@@ -7,7 +7,7 @@ ghost use lib.ListN.{length};
 ghost use Rattle.text.specs.Write.{decimal, ended};
 ghost use Rattle.flow.specs.Limits.{maxInstructions};
 ghost use Rattle.interpreter.specs.Run.{written};
-ghost use Rattle.render.specs.Report.{distanceField, exitLine, exitLines, linesFrom, wordLine, reportText, Printed};
+ghost use Rattle.render.specs.Report.{distanceText, exitLine, exitLines, exitLinesFrom, wordLine, reportText, Printed};
 ghost use Rattle.render.specs.Inner.{Put};
 use cells::Cell;
 use flow::Flow;
@@ -55,7 +55,7 @@ fn field(out: &mut [u8], at: usize, n: u64) -> usize
 // The distance, 0 for none.
 fn distance(out: &mut [u8], at: usize, d: u32) -> usize
     requires { ⌜ at + 20 ≤ length (now out) ⌝ }
-    ensures { λ r. ⌜ Put (distanceField d) (now (out .entry)) at (now (out .exit)) r × (r ≤ at + 20) ⌝ }
+    ensures { λ r. ⌜ Put (distanceText d) (now (out .entry)) at (now (out .exit)) r × (r ≤ at + 20) ⌝ }
 {
     if d == 0 {
         return copy(out, at, b"none");
@@ -95,7 +95,7 @@ fn all_exits(
     m: [u32; Flow::MAX_INSTRUCTIONS],
 ) -> usize
     requires { ⌜ at + 32 * maxInstructions + 64 ≤ length (now out) ⌝ }
-    ensures { λ r. ⌜ Put (ended (linesFrom 0 maxInstructions two p m)) (now (out .entry)) at (now (out .exit)) r × (r ≤ at + 32 * maxInstructions) ⌝ }
+    ensures { λ r. ⌜ Put (ended (exitLinesFrom 0 maxInstructions two p m)) (now (out .entry)) at (now (out .exit)) r × (r ≤ at + 32 * maxInstructions) ⌝ }
 {
     let mut end = at;
     let mut i = 0;

@@ -18,9 +18,9 @@ use Rattle.flow.specs.declared.Refusal.the-variants.{ShortRow}
 use Rattle.configuration.specs.Op.{opOf}
 use Rattle.configuration.specs.Pattern.{Width}
 use Rattle.configuration.specs.declared.Op.{Op}
-use Rattle.configuration.proofs.Steps.{Fit}
+use Rattle.configuration.proofs.Steps.{FlowFits}
 use Rattle.configuration.proofs.Fitting.{fit-legal, legal-limited}
-use Rattle.cells.specs.Columns.{placeField, patternField, distanceField, parentField, bucketField, wayField, column, rowsOf, Only}
+use Rattle.cells.specs.Columns.{placeField, patternField, distanceField, parentField, bucketField, wayField, column, columnsOf, Only}
 use Rattle.cells.specs.Entries.{Entries, entries, entriesOf, distanceOf}
 use Rattle.cells.proofs.Fields.{length-column, word-column-same}
 use Rattle.cells.specs.Way.{Traced}
@@ -29,7 +29,7 @@ use Rattle.cells.specs.declared.Found.the-variants.{At, Nothing}
 use Rattle.table.specs.Table.{Complete}
 use Rattle.table.specs.Passes.{blank, Prepared}
 use Rattle.table.proofs.Says.{found-distance, found-stored, found-nothing, past-plain}
-use Rattle.sample.specs.Sampling.{Course, course, Leads, endOf, Ends, WrittenBy, Tabled, NearestIs}
+use Rattle.sample.specs.Sampling.{Course, course, CourseLeads, endOf, Ends, WrittenBy, Tabled, NearestIs}
 use Rattle.sample.specs.Picking.{bare, Written, PickedIs}
 use Rattle.sample.specs.declared.SampleEnd.{SampleEnd}
 use Rattle.sample.specs.declared.SampleEnd.the-variants.{Taken, Never, Refused}
@@ -38,17 +38,17 @@ use Rattle.sample.proofs.Given.{traced-leads, found-ends}
 
 -- ---- a way written into the cells leaves the entries
 module _ (c c₁ : List (List ℕ)) (only : Only wayField c c₁) where
-  entries-kept : entriesOf (rowsOf c) ≡ entriesOf (rowsOf c₁)
+  entries-kept : entriesOf (columnsOf c) ≡ entriesOf (columnsOf c₁)
   entries-kept =
       λ i. entries (word-column-same placeField c₁ c (sym (only placeField (omega arith))) (sym (only (placeField + 1) (omega arith))) i)
       (word-column-same patternField c₁ c (sym (only patternField (omega arith))) (sym (only (patternField + 1) (omega arith))) i) (sym (only distanceField (omega arith)) i) (sym (only parentField (omega arith)) i) (sym (only bucketField (omega arith)) i)
 
-  pub tabled-after : {flow : Flow} {n room : ℕ} {ops : List Op} {w : ℕ} {lo hi : ℤ} {i : ℕ} → Tabled flow (entriesOf (rowsOf c)) n room ops w lo hi i
-      → Tabled flow (entriesOf (rowsOf c₁)) n room ops w lo hi i
+  pub tabled-after : {flow : Flow} {n room : ℕ} {ops : List Op} {w : ℕ} {lo hi : ℤ} {i : ℕ} → Tabled flow (entriesOf (columnsOf c)) n room ops w lo hi i
+      → Tabled flow (entriesOf (columnsOf c₁)) n room ops w lo hi i
   tabled-after {flow} {n} {room} {ops} {w} {lo} {hi} {i} = subst (λ (e : Entries). Tabled flow e n room ops w lo hi i) entries-kept
 
-  pub nearest-after : (w n : ℕ) (ops : List Op) (i : ℕ) (exit : Bool) (k : ℕ) → NearestIs w (entriesOf (rowsOf c)) n ops i (exitIf exit) (At k)
-      → NearestIs w (entriesOf (rowsOf c₁)) n ops i (exitIf exit) (At k)
+  pub nearest-after : (w n : ℕ) (ops : List Op) (i : ℕ) (exit : Bool) (k : ℕ) → NearestIs w (entriesOf (columnsOf c)) n ops i (exitIf exit) (At k)
+      → NearestIs w (entriesOf (columnsOf c₁)) n ops i (exitIf exit) (At k)
   nearest-after w n ops i exit k = subst (λ (e : Entries). NearestIs w e n ops i (exitIf exit) (At k)) entries-kept
 
   pub traced-after : (path : List ℕ) (n k : ℕ) → Traced (column distanceField c) (column parentField c) path n k (getD (column distanceField c) k 0)
@@ -96,7 +96,7 @@ tabled-at t p q =
     }
 
 module _ {flow : Flow} {e : Entries} {n room : ℕ} {ops : List Op} {w : ℕ} {lo hi : ℤ} {i : ℕ} (t : Tabled flow e n room ops w lo hi i) where
-  fit : Fit lo hi w flow
+  fit : FlowFits lo hi w flow
   fit = rw (t .low, t .high, t .width) (fit-legal flow (t .legal))
 
   pub tabled-wide : Width w
@@ -159,7 +159,7 @@ module _ {flow : Flow} {e : Entries} {n room : ℕ} {ops : List Op} {w : ℕ} {l
           abbrev way-course : Course
           way-course = course (e .places) (e .patterns) path last ops w lo hi
 
-          pub way-leads : Leads way-course flow
+          pub way-leads : CourseLeads way-course flow
           way-leads = traced-leads fit complete (t .parents) way ops low high prepared (t .walkable) (omega (arith, nearest-room))
 
           way-end : Ends way-course flow exit × (endOf way-course ≡ i)

@@ -19,10 +19,10 @@ use Rattle.flow.specs.Legal.{Legal}
 use Rattle.configuration.specs.Op.{widthOf}
 use Rattle.configuration.specs.Place.{words, atOf, configurationOf}
 use Rattle.configuration.specs.Step.{takesOf, startOf}
-use Rattle.configuration.specs.Graph.{Edge, opAt}
+use Rattle.configuration.specs.Graph.{WordEdge, opAt}
 use Rattle.configuration.specs.declared.Words.{Words}
 use Rattle.configuration.specs.declared.Op.{Op}
-use Rattle.configuration.proofs.Steps.{Fit, Proper}
+use Rattle.configuration.proofs.Steps.{FlowFits, ProperWords}
 use Rattle.cells.specs.Columns.{placeField, patternField, wayField, column, wordColumn}
 use Rattle.cells.specs.Entries.{Entries}
 use Rattle.cells.specs.Way.{Parents}
@@ -30,8 +30,8 @@ use Rattle.cells.specs.declared.Found.{Found}
 use Rattle.table.specs.Table.{Complete}
 use Rattle.table.specs.Passes.{blank, Prepared, Walkable, takesAt, FirstIs}
 use Rattle.table.specs.Way.{placeOn, Passable, opOn, countedOf, readsOn}
-use Rattle.tapes.specs.Reading.{written}
-use Rattle.tapes.specs.Fit.{Fit as Laid}
+use Rattle.tapes.specs.Reading.{tapesWritten}
+use Rattle.tapes.specs.Fit.{WalkFits as Laid}
 use Rattle.tapes.specs.declared.Walk.{Walk}
 use Rattle.sample.specs.Picking.{Written}
 
@@ -69,8 +69,8 @@ abbrev pub sizesAlong : Course → (exit : Bool) → List ℕ
 sizesAlong k exit = countedOf (readsAlong k (k .steps)) (opAlong k (k .steps)) exit
 
 -- the way leads from the flow's start by edges of the graph on words
-pub record Leads (k : Course) (flow : Flow) : Type 0 where
-  pub fit : Fit (k .lo) (k .hi) (k .w) flow
+pub record CourseLeads (k : Course) (flow : Flow) : Type 0 where
+  pub fit : FlowFits (k .lo) (k .hi) (k .w) flow
   pub low : T (leZ (negsuc 9998) (k .lo))
   pub high : T (leZ (k .hi) (pos 9999))
   pub prepared : Prepared (k .lo) flow (k .ops)
@@ -78,7 +78,7 @@ pub record Leads (k : Course) (flow : Flow) : Type 0 where
   pub patterned : (t : ℕ) → t ≤ k .steps → getD (k .path) t 0 < length (k .patterns)
   pub starts : wordsAlong k 0 ≡ startOf (k .lo)
   pub edge : (t : ℕ) → t < k .steps
-      → (e : Option Exit) × Edge (k .w) (opAt (k .lo) flow (wordsAlong k t)) (wordsAlong k t) e (wordsAlong k (t + 1))
+      → (e : Option Exit) × WordEdge (k .w) (opAt (k .lo) flow (wordsAlong k t)) (wordsAlong k t) e (wordsAlong k (t + 1))
 
 -- the instruction at its end
 abbrev pub endOf : Course → ℕ
@@ -101,9 +101,9 @@ pub record Following (k : Course) (flow : Flow) (sizes : List ℕ) (old : List �
   pub laid : Laid (k .lo) (k .hi) sizes walk row
   pub counts : walk .counts ≡ readsAlong k t
   pub reads : ℕ
-  pub follows : Follows (k .lo) (k .hi) (wider maxTapes maxVariables flow) t reads (written walk row) (walk .values)
+  pub follows : Follows (k .lo) (k .hi) (wider maxTapes maxVariables flow) t reads (tapesWritten walk row) (walk .values)
       (configurationOf (k .lo) (k .w) (wider maxTapes maxVariables flow) (wordsAlong k t))
-  pub proper : Proper (k .lo) (k .w) (wider maxTapes maxVariables flow) (wordsAlong k t)
+  pub proper : ProperWords (k .lo) (k .w) (wider maxTapes maxVariables flow) (wordsAlong k t)
   pub size : length row ≡ length old
   pub beyond : drop (total sizes) row ≡ drop (total sizes) old
 

@@ -11,11 +11,11 @@ ghost use Rattle.configuration.specs.Pattern.{Width, laneOf, valueOf};
 ghost use Rattle.configuration.proofs.Span.{real};
 ghost use Rattle.tapes.specs.Moves.{Movable};
 ghost use Rattle.tapes.specs.Reading.{Ready};
-ghost use Rattle.cells.specs.Columns.{placeField, patternField, wayField, column, wordColumn, rowsOf};
+ghost use Rattle.cells.specs.Columns.{placeField, patternField, wayField, column, wordColumn, columnsOf};
 ghost use Rattle.cells.specs.Entries.{entriesOf};
 ghost use Rattle.table.specs.Way.{placeOn, Passable, isRead, countedOf, readsOn};
-ghost use Rattle.sample.specs.Steps.{wishOf, takesRecord, termIn, quietWalk, walkTo, rowTo, lastRow, Fine, Low};
-ghost use Rattle.sample.specs.Sampling.{courseIn, Leads, Ends, Roomy, Following, WrittenBy, Tabled, NearestIs};
+ghost use Rattle.sample.specs.Steps.{wishOf, takesRecord, termIn, quietWalk, walkTo, rowTo, lastRow, OpFits, Low};
+ghost use Rattle.sample.specs.Sampling.{courseIn, CourseLeads, Ends, Roomy, Following, WrittenBy, Tabled, NearestIs};
 ghost use Rattle.sample.specs.Picking.{bare, PickedIs};
 use cells::Cell;
 use cells::Found;
@@ -69,7 +69,7 @@ fn wish_of(word: u64, w: u64, lo: i32) -> [i32; Flow::VARIABLES]
 
 // The value of term u: a variable, or the constant.
 fn term(values: [i32; Flow::VARIABLES], op: Op, lo: i32, u: u8) -> i32
-    requires { ⌜ Fine op ⌝ }
+    requires { ⌜ OpFits op ⌝ }
     requires { ⌜ Low lo ⌝ }
     ensures { λ r. ⌜ r ≡ termIn lo op values u ⌝ }
 {
@@ -81,7 +81,7 @@ fn term(values: [i32; Flow::VARIABLES], op: Op, lo: i32, u: u8) -> i32
 
 // A step that reads no record.
 fn quiet(walk: Walk, op: Op, lo: i32) -> Walk
-    requires { ⌜ Fine op ⌝ }
+    requires { ⌜ OpFits op ⌝ }
     requires { ⌜ Low lo ⌝ }
     ensures { λ r. ⌜ r ≡ quietWalk lo op walk ⌝ }
 {
@@ -131,7 +131,7 @@ fn takes_record(op: Op, next: Words) -> bool
 fn step(row: &mut [i32], walk: Walk, op: Op, next: Words, w: u64, lo: i32, hi: i32) -> Walk
     requires { ⌜ Width w ⌝ }
     requires { ⌜ Low lo ⌝ }
-    requires { ⌜ Fine op ⌝ }
+    requires { ⌜ OpFits op ⌝ }
     requires { ⌜ (takesRecord op next ≡ true → Ready walk (op .tape) (op .variable) (now row) × Movable lo × Movable hi) ⌝ }
     ensures { λ r. ⌜ (r ≡ walkTo lo hi w op next walk) × (now (row .exit) ≡ rowTo lo hi w op next walk (now (row .entry))) ⌝ }
 {
@@ -146,7 +146,7 @@ fn step(row: &mut [i32], walk: Walk, op: Op, next: Words, w: u64, lo: i32, hi: i
 
 // The record of the last step, if that step takes p of a read: the one that is chosen for the wish 0.
 fn last_read(row: &mut [i32], walk: Walk, op: Op, exit: bool, lo: i32, hi: i32)
-    requires { ⌜ Fine op ⌝ }
+    requires { ⌜ OpFits op ⌝ }
     requires { ⌜ ((isRead (op .action) && exit) ≡ true → Ready walk (op .tape) (op .variable) (now row) × Movable lo × Movable hi) ⌝ }
     ensures { λ _. ⌜ now (row .exit) ≡ lastRow lo hi op exit walk (now (row .entry)) ⌝ }
 {
@@ -202,10 +202,10 @@ fn write_steps(
     sizes: [usize; Flow::TAPES],
     row: &mut [i32],
 ) -> Walk
-    requires { ⌜ ((flow : FlowOf) × Leads (courseIn (now cells) steps ops w lo hi) flow) ⌝ }
+    requires { ⌜ ((flow : FlowOf) × CourseLeads (courseIn (now cells) steps ops w lo hi) flow) ⌝ }
     requires { ⌜ Roomy (courseIn (now cells) steps ops w lo hi) sizes (length (now row)) ⌝ }
     ensures { λ r. ⌜ ((flow : FlowOf)
-        → Leads (courseIn (now (cells .entry)) steps ops w lo hi) flow
+        → CourseLeads (courseIn (now (cells .entry)) steps ops w lo hi) flow
         → Following (courseIn (now (cells .entry)) steps ops w lo hi) flow sizes
         (now (row .entry)) steps r (now (row .exit))) ⌝ }
 {
@@ -233,11 +233,11 @@ fn write_sample(
     exit: bool,
     row: &mut [i32],
 ) -> [usize; Flow::TAPES]
-    requires { ⌜ ((flow : FlowOf) × Leads (courseIn (now cells) steps ops w lo hi) flow
+    requires { ⌜ ((flow : FlowOf) × CourseLeads (courseIn (now cells) steps ops w lo hi) flow
         × Ends (courseIn (now cells) steps ops w lo hi) flow exit) ⌝ }
     requires { ⌜ suc steps ≤ length (now row) ⌝ }
     ensures { λ r. ⌜ ((flow : FlowOf)
-        → Leads (courseIn (now (cells .entry)) steps ops w lo hi) flow
+        → CourseLeads (courseIn (now (cells .entry)) steps ops w lo hi) flow
         → Ends (courseIn (now (cells .entry)) steps ops w lo hi) flow exit
         → WrittenBy (courseIn (now (cells .entry)) steps ops w lo hi) flow exit
         (now (row .entry)) (now (row .exit)) r) ⌝ }
@@ -277,12 +277,12 @@ fn sample_at(
     row: &mut [i32],
 ) -> SampleAnswer
     requires { ⌜ ((flow : FlowOf) × (i : ℕ)
-        × Tabled flow (entriesOf (rowsOf (now cells))) n (length (now cells)) ops w lo hi i
-        × NearestIs w (entriesOf (rowsOf (now cells))) n ops i (exitIf exit) (Found.At k)) ⌝ }
+        × Tabled flow (entriesOf (columnsOf (now cells))) n (length (now cells)) ops w lo hi i
+        × NearestIs w (entriesOf (columnsOf (now cells))) n ops i (exitIf exit) (Found.At k)) ⌝ }
     ensures { λ r. ⌜ ((flow : FlowOf) (i : ℕ)
-        → Tabled flow (entriesOf (rowsOf (now (cells .entry)))) n
+        → Tabled flow (entriesOf (columnsOf (now (cells .entry)))) n
         (length (now (cells .entry))) ops w lo hi i
-        → NearestIs w (entriesOf (rowsOf (now (cells .entry)))) n ops i
+        → NearestIs w (entriesOf (columnsOf (now (cells .entry)))) n ops i
         (exitIf exit) (Found.At k)
         → PickedIs flow tapes i (exitIf exit) (now (row .entry)) (now (row .exit)) r (r .end)) ⌝ }
 {
@@ -314,9 +314,9 @@ pub fn sample_for(
     row: &mut [i32],
 ) -> SampleAnswer
     requires { ⌜ ((flow : FlowOf)
-        × Tabled flow (entriesOf (rowsOf (now cells))) n (length (now cells)) ops w lo hi instruction) ⌝ }
+        × Tabled flow (entriesOf (columnsOf (now cells))) n (length (now cells)) ops w lo hi instruction) ⌝ }
     ensures { λ r. ⌜ ((flow : FlowOf)
-        → Tabled flow (entriesOf (rowsOf (now (cells .entry)))) n
+        → Tabled flow (entriesOf (columnsOf (now (cells .entry)))) n
         (length (now (cells .entry))) ops w lo hi instruction
         → PickedIs flow tapes instruction (exitIf exit) (now (row .entry)) (now (row .exit)) r (r .end)) ⌝ }
 {

@@ -14,18 +14,18 @@ use Rattle.graph.specs.Lists.{MoreThan}
 use Rattle.graph.specs.Graph.{Reached}
 use Rattle.graph.proofs.Table.{Table, Held, Extends, Pushed}
 use Rattle.graph.proofs.Complete.{entry-induction, dist-small}
-use Rattle.graph.proofs.Search.{Searching, start, push-one, seen, advance, finish}
+use Rattle.graph.proofs.Search.{Searching, search-start, push-one, seen, advance, finish}
 use Rattle.graph.proofs.Refusal.{start-outnumber, full-outnumber}
 use Rattle.model.specs.Language.{Flow, stop, instruction}
 use Rattle.model.specs.Machine.{Exit}
 use Rattle.configuration.specs.Place.{atOf}
 use Rattle.configuration.specs.Op.{opOf, readOp, stopOp}
 use Rattle.configuration.specs.Step.{startOf}
-use Rattle.configuration.specs.Graph.{Edge, opAt}
+use Rattle.configuration.specs.Graph.{WordEdge, opAt}
 use Rattle.configuration.specs.declared.Words.{Words}
 use Rattle.configuration.specs.declared.Op.{Op}
 use Rattle.configuration.specs.declared.Action.the-variants.{Read}
-use Rattle.configuration.proofs.Steps.{Fit, Proper}
+use Rattle.configuration.proofs.Steps.{FlowFits, ProperWords}
 use Rattle.configuration.proofs.Edges.{read-lane, edge-proper}
 use Rattle.configuration.proofs.Reaches.{start-proper}
 use Rattle.cells.specs.Cells.{mostCells, cellsOf}
@@ -36,7 +36,7 @@ use Rattle.cells.specs.Marks.{isMarked}
 use Rattle.cells.proofs.Fields.{length-column}
 use Rattle.table.specs.Table.{wordGraph, wordsAt, tableOf}
 use Rattle.growth.specs.Growth.{Grows, none, more, Outgrown, Kept}
-use Rattle.growth.specs.Fan.{Marked, Leads, Fine, GrownIs}
+use Rattle.growth.specs.Fan.{Marked, LeadsTo, FanFits, GrownIs}
 use Rattle.table.specs.Passes.{Prepared}
 use Rattle.search.specs.Search.{ExpandedIs, Exploring, Finished, SearchedIs}
 use Rattle.search.specs.declared.Searched.{Searched}
@@ -70,13 +70,13 @@ module _ {lo : ℤ} {flow : Flow} {ops : List Op} (p : Prepared lo flow ops) whe
 
 -- ---- by the words and the distance that were read
 pub expanded-by : (w : ℕ) (op : Op) (r r′ : Rows) (count cells k : ℕ) (g : Grown) {x : Words} {d : ℕ} → x ≡ wordsAt (entriesOf r) k
-    → d ≡ distanceOf (entriesOf r) k + 1 → GrownIs (Leads w op x) (Leads w op x) w r r′ count cells d k g → ExpandedIs w op r r′ count cells k g
+    → d ≡ distanceOf (entriesOf r) k + 1 → GrownIs (LeadsTo w op x) (LeadsTo w op x) w r r′ count cells d k g → ExpandedIs w op r r′ count cells k g
 expanded-by w op r r′ count cells k g same far =
-    subst₂ (λ (x : Words) (d : ℕ). GrownIs (Leads w op x) (Leads w op x) w r r′ count cells d k g) same far
+    subst₂ (λ (x : Words) (d : ℕ). GrownIs (LeadsTo w op x) (LeadsTo w op x) w r r′ count cells d k g) same far
 
 -- ---- a growth along the edges of entry k
 module _ (lo : ℤ) (w : ℕ) (flow : Flow) {S : Words → Type 0} {d k : ℕ} {t : Table Words} (s : Searching (wordGraph lo w flow) t k)
-    (stored : k < t .count) (near : d ≡ t .dist k + 1) (edges : (y : Words) → S y → Leads w (opAt lo flow (t .node k)) (t .node k) y) where
+    (stored : k < t .count) (near : d ≡ t .dist k + 1) (edges : (y : Words) → S y → LeadsTo w (opAt lo flow (t .node k)) (t .node k) y) where
   pub grows-searching : {t′ : Table Words} → Grows S d k t t′ → Searching (wordGraph lo w flow) t′ k
   unfolding wordGraph
   grows-searching none = s
@@ -87,11 +87,11 @@ module _ (lo : ℤ) (w : ℕ) (flow : Flow) {S : Words → Type 0} {d k : ℕ} {
 
       go : Searching (wordGraph lo w flow) t′ k → Searching (wordGraph lo w flow) t″ k
       go s′ =
-          let (l, edge) = subst (λ (x : Words). Leads w (opAt lo flow x) x y) (sym (old .nodes k stored)) (edges y a) in
+          let (l, edge) = subst (λ (x : Words). LeadsTo w (opAt lo flow x) x y) (sym (old .nodes k stored)) (edges y a) in
           push-one s′ (omega (arith, old .more)) (subst (λ (n : ℕ). Pushed t′ t″ y n k) (omega (arith, old .dists k stored)) pushed) fresh l edge refl
 
 -- ---- the search of a flow at entry k
-module _ {lo hi : ℤ} {w : ℕ} {flow : Flow} (f : Fit lo hi w flow) {r : Rows} {n cells k : ℕ} (x : Exploring lo w flow r n cells k) where
+module _ {lo hi : ℤ} {w : ℕ} {flow : Flow} (f : FlowFits lo hi w flow) {r : Rows} {n cells k : ℕ} (x : Exploring lo w flow r n cells k) where
   -- the words of entry k, and how much further on its successors are
   abbrev here : Words
   here = wordsAt (entriesOf r) k
@@ -99,15 +99,15 @@ module _ {lo hi : ℤ} {w : ℕ} {flow : Flow} (f : Fit lo hi w flow) {r : Rows}
   abbrev further : ℕ
   further = distanceOf (entriesOf r) k + 1
 
-  entry-proper : (i : ℕ) → i < n → Proper lo w flow (wordsAt (entriesOf r) i)
+  entry-proper : (i : ℕ) → i < n → ProperWords lo w flow (wordsAt (entriesOf r) i)
   unfolding wordGraph tableOf
   entry-proper =
-      entry-induction (x .searching .sound) (λ i. Proper lo w flow (wordsAt (entriesOf r) i))
-      (subst (Proper lo w flow) (sym (x .searching .sound .origin)) (start-proper f))
+      entry-induction (x .searching .sound) (λ i. ProperWords lo w flow (wordsAt (entriesOf r) i))
+      (subst (ProperWords lo w flow) (sym (x .searching .sound .origin)) (start-proper f))
       (λ i m c p. edge-proper f _ p (c .edge))
 
   module _ (stored : k < n) where
-    pub entry-fine : {op : Op} → op ≡ opAt lo flow here → Fine w op here
+    pub entry-fine : {op : Op} → op ≡ opAt lo flow here → FanFits w op here
     entry-fine is =
         let p = entry-proper k stored in
         record {
@@ -122,26 +122,26 @@ module _ {lo hi : ℤ} {w : ℕ} {flow : Flow} (f : Fit lo hi w flow) {r : Rows}
         omega (arith, dist-small (x .searching .sound) (λ l. omega arith) k stored, x .ready .filled .index .within, x .ready .filled .index .few)
 
     module _ {op : Op} (is : op ≡ opAt lo flow here) where
-      led : (y : Words) → Leads w op here y → Leads w (opAt lo flow here) here y
-      led y = subst (λ (o : Op). Leads w o here y) is
+      led : (y : Words) → LeadsTo w op here y → LeadsTo w (opAt lo flow here) here y
+      led y = subst (λ (o : Op). LeadsTo w o here y) is
 
-      grown-searching : {t′ : Table Words} → Grows (Leads w op here) further k (tableOf (entriesOf r) n) t′
+      grown-searching : {t′ : Table Words} → Grows (LeadsTo w op here) further k (tableOf (entriesOf r) n) t′
           → Searching (wordGraph lo w flow) t′ k
       unfolding tableOf
       grown-searching = grows-searching lo w flow (x .searching) stored refl led
 
       -- no cell is left for what an edge leads to
-      pub explored-full : Outgrown (Leads w op here) further k (tableOf (entriesOf r) n) cells
+      pub explored-full : Outgrown (LeadsTo w op here) further k (tableOf (entriesOf r) n) cells
           → MoreThan (Reached (wordGraph lo w flow)) cells
       unfolding wordGraph tableOf
       explored-full o =
           let g = grows-extends (o .grows) in
-          let (l, edge) = subst (λ (y : Words). Leads w (opAt lo flow y) y (o .words)) (sym (g .nodes k stored)) (led (o .words) (o .wanted)) in
+          let (l, edge) = subst (λ (y : Words). LeadsTo w (opAt lo flow y) y (o .words)) (sym (g .nodes k stored)) (led (o .words) (o .wanted)) in
           full-outnumber (grown-searching (o .grows) .sound) cells k l (o .words) (o .full) (omega (arith, g .more)) edge (o .fresh)
 
       -- the entry is expanded
       pub explored : {r′ : Rows} {m : ℕ}
-          → Kept (Leads w op here) (Leads w op here) (entriesOf r) (entriesOf r′) (r′ .heads) (r′ .nexts)
+          → Kept (LeadsTo w op here) (LeadsTo w op here) (entriesOf r) (entriesOf r′) (r′ .heads) (r′ .nexts)
           n cells further k m × Marked w (r′ .fans) (tableOf (entriesOf r′) m) → length (r′ .fans) ≡ length (r .fans)
           → Exploring lo w flow r′ m cells (k + 1)
       unfolding wordGraph tableOf
@@ -160,11 +160,11 @@ module _ {lo hi : ℤ} {w : ℕ} {flow : Flow} (f : Fit lo hi w flow) {r : Rows}
           later : k < m
           later = omega (arith, g .more)
 
-          held : (l : Option Exit) (y : Words) → Edge w (opAt lo flow (wordsAt (entriesOf r′) k)) (wordsAt (entriesOf r′) k) l y
+          held : (l : Option Exit) (y : Words) → WordEdge w (opAt lo flow (wordsAt (entriesOf r′) k)) (wordsAt (entriesOf r′) k) l y
               → Held (tableOf (entriesOf r′) m) y
           held l y e =
-              kept .all y (subst (λ (o : Op). Leads w o here y) (sym is)
-              (l, subst (λ (z : Words). Edge w (opAt lo flow z) z l y) (g .nodes k stored) e))
+              kept .all y (subst (λ (o : Op). LeadsTo w o here y) (sym is)
+              (l, subst (λ (z : Words). WordEdge w (opAt lo flow z) z l y) (g .nodes k stored) e))
 
   -- no entry is left
   pub finished : n ≤ k → Finished lo w flow r cells n
@@ -184,7 +184,7 @@ unfolding wordGraph tableOf
 begun-exploring {lo} {w} {flow} r s is b room =
     record {
       ready = record { filled = b .filled; room = room; marked = λ i v l m. absurd (true-false (sym m ∙ first i v (omega arith))) };
-      searching = start (wordGraph lo w flow) (tableOf (entriesOf r) 1) refl (node-words (b .node) ∙ is) (b .distance) (b .parent);
+      searching = search-start (wordGraph lo w flow) (tableOf (entriesOf r) 1) refl (node-words (b .node) ∙ is) (b .distance) (b .parent);
     }
   where
     first : (i v : ℕ) → i ≡ 0 → isMarked (r .fans) i v ≡ false

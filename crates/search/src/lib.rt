@@ -4,10 +4,10 @@ ghost use Prim.Native.Nat.{_<_};
 ghost use lib.ListN.{getD};
 ghost use Rattle.configuration.specs.Step.{startOf};
 ghost use Rattle.cells.specs.Cells.{mostCells, cellsOf};
-ghost use Rattle.cells.specs.Columns.{distanceField, column, rowsOf};
+ghost use Rattle.cells.specs.Columns.{distanceField, column, columnsOf};
 ghost use Rattle.cells.specs.Entries.{entriesOf};
 ghost use Rattle.table.specs.Table.{wordsAt};
-ghost use Rattle.growth.specs.Fan.{Ready, Fine};
+ghost use Rattle.growth.specs.Fan.{SearchReady, FanFits};
 ghost use Rattle.search.specs.Search.{Subject, ExpandedIs, Exploring, SearchedIs};
 use cells::Cell;
 use configuration::Op;
@@ -31,13 +31,13 @@ fn expand(
     op: Op,
     w: u64,
 ) -> Grown
-    requires { ⌜ Ready w (rowsOf (now cells)) count size ⌝ }
+    requires { ⌜ SearchReady w (columnsOf (now cells)) count size ⌝ }
     requires { ⌜ k < count ⌝ }
-    requires { ⌜ Fine w op (wordsAt (entriesOf (rowsOf (now cells))) k) ⌝ }
+    requires { ⌜ FanFits w op (wordsAt (entriesOf (columnsOf (now cells))) k) ⌝ }
     requires { ⌜ getD (column distanceField (now cells)) k 0 < mostCells ⌝ }
     ensures { λ r. ⌜ ExpandedIs w op
-        (rowsOf (now (cells .entry)))
-        (rowsOf (now (cells .exit)))
+        (columnsOf (now (cells .entry)))
+        (columnsOf (now (cells .exit)))
         count size k r ⌝ }
 {
     let x = table::words_at(cells, k);
@@ -59,11 +59,11 @@ fn walk(
     w: u64,
 ) -> Searched
     requires { ⌜ ((s : Subject w ops) × Exploring (s .lo) w (s .flow)
-        (rowsOf (now cells)) 1 size 0) ⌝ }
+        (columnsOf (now cells)) 1 size 0) ⌝ }
     ensures { λ r. ⌜ ((s : Subject w ops) → Exploring (s .lo) w (s .flow)
-        (rowsOf (now (cells .entry))) 1 size 0
+        (columnsOf (now (cells .entry))) 1 size 0
         → SearchedIs (s .lo) w (s .flow)
-        (rowsOf (now (cells .exit))) size r) ⌝ }
+        (columnsOf (now (cells .exit))) size r) ⌝ }
 {
     let mut n = 1;
     let mut k = 0;
@@ -93,7 +93,7 @@ pub fn search(
     requires { ⌜ ((s : Subject w ops) × (start ≡ startOf (s .lo))) ⌝ }
     ensures { λ r. ⌜ ((s : Subject w ops) → start ≡ startOf (s .lo)
         → SearchedIs (s .lo) w (s .flow)
-        (rowsOf (now (cells .exit)))
+        (columnsOf (now (cells .exit)))
         (cellsOf (now (cells .entry))) r) ⌝ }
 {
     let size = cells::cells_of(cells);

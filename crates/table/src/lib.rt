@@ -13,7 +13,7 @@ ghost use Rattle.configuration.specs.Inner.{Below};
 ghost use Rattle.configuration.specs.Pattern.{Width};
 ghost use Rattle.configuration.specs.Place.{atOf};
 ghost use Rattle.configuration.specs.Step.{takesOf};
-ghost use Rattle.cells.specs.Columns.{placeField, patternField, distanceField, wayField, column, wordColumn, rowsOf};
+ghost use Rattle.cells.specs.Columns.{placeField, patternField, distanceField, wayField, column, wordColumn, columnsOf};
 ghost use Rattle.cells.specs.Entries.{entriesOf};
 ghost use Rattle.table.specs.Table.{wordsAt};
 ghost use Rattle.table.specs.Passes.{Stands, Walkable, takesAt, FirstIs, ExitsOf};
@@ -35,7 +35,7 @@ pub struct Distances {
 // The words of entry k.
 pub fn words_at(cells: &[[u32; Cell::WORDS]], k: usize) -> Words
     requires { ⌜ k < length (now cells) ⌝ }
-    ensures { λ r. ⌜ r ≡ wordsAt (entriesOf (rowsOf (now (cells .entry)))) k ⌝ }
+    ensures { λ r. ⌜ r ≡ wordsAt (entriesOf (columnsOf (now (cells .entry)))) k ⌝ }
 {
     Words {
         place: cells::word(cells, k, Cell::PLACE),

@@ -22,7 +22,7 @@ use Rattle.configuration.specs.Pattern.{Width}
 use Rattle.configuration.specs.Place.{configurationOf}
 use Rattle.configuration.specs.Step.{startOf}
 use Rattle.configuration.specs.declared.Op.{Op}
-use Rattle.configuration.proofs.Steps.{Fit}
+use Rattle.configuration.proofs.Steps.{FlowFits}
 use Rattle.configuration.proofs.Fitting.{fit-legal}
 use Rattle.configuration.proofs.Prepared.{legal-bytes}
 use Rattle.cells.specs.Cells.{cellWords, cellsOf, zeroed}
@@ -63,8 +63,8 @@ rows-bytes held legal i l =
 
 -- ---- what a search of a planned flow finds
 module _ {flow : Flow} {p : Plan} (plan : Planned flow p) where
-  fits : Fit (C1 flow) (C2 flow) (p .w) flow
-  fits = subst⁻¹ (λ (n : ℕ). Fit (C1 flow) (C2 flow) n flow) (plan .width) (fit-legal flow (plan .legal))
+  fits : FlowFits (C1 flow) (C2 flow) (p .w) flow
+  fits = subst⁻¹ (λ (n : ℕ). FlowFits (C1 flow) (C2 flow) n flow) (plan .width) (fit-legal flow (plan .legal))
 
   pub plan-wide : Width (p .w)
   plan-wide = fits .span .width

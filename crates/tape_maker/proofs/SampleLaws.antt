@@ -15,7 +15,7 @@ use Rattle.flow.specs.declared.Refusal.the-variants.{NoSuchExit, TooFewCells}
 use Rattle.flow.specs.declared.Instruction.{Instruction as Row}
 use Rattle.flow.specs.declared.Flow.{Flow as FlowRows}
 use Rattle.cells.specs.Cells.{cellsOf, zeroed}
-use Rattle.cells.specs.Columns.{nextField, rowsOf}
+use Rattle.cells.specs.Columns.{nextField, columnsOf}
 use Rattle.cells.specs.Entries.{entriesOf}
 use Rattle.cells.proofs.Fields.{length-column}
 use Rattle.table.proofs.Way.{complete-parents}
@@ -26,7 +26,7 @@ use Rattle.sample.specs.declared.SampleEnd.{SampleEnd}
 use Rattle.sample.specs.declared.SampleEnd.the-variants.{Taken, Never, Refused}
 use Rattle.sample.specs.declared.SampleAnswer.{SampleAnswer}
 use Rattle.tape_maker.specs.Report.{Outnumber}
-use Rattle.tape_maker.specs.Sample.{Wanted, Held, Reason, no-such-exit, too-few-cells, short-row, Answered, SampleOf, SampleIs}
+use Rattle.tape_maker.specs.Sample.{Wanted, Suffices, Reason, no-such-exit, too-few-cells, short-row, Answered, SampleOf, SampleIs}
 use Rattle.tape_maker.specs.Inner.{exitsAt, exitsIn, Planned, sampleRefused}
 use Rattle.tape_maker.specs.declared.planning.Plan.{Plan}
 use Rattle.tape_maker.proofs.Tables.{exits-held}
@@ -49,9 +49,9 @@ unfolding flowOf
 flow-exits rows i e = e
 
 -- ---- what a finished search leaves in the cells is a table for an exit that is wanted
-module _ {flow : Flow} {p : Plan} (plan : Planned flow p) (c : List (List ℕ)) {cells n : ℕ} (f : Finished (C1 flow) (p .w) flow (rowsOf c) cells n) where
+module _ {flow : Flow} {p : Plan} (plan : Planned flow p) (c : List (List ℕ)) {cells n : ℕ} (f : Finished (C1 flow) (p .w) flow (columnsOf c) cells n) where
   pub finished-tabled : {i : ℕ} → Wanted flow i → {lo hi : ℤ} → lo ≡ p .lo → hi ≡ p .hi
-      → Tabled flow (entriesOf (rowsOf c)) n (length c) (p .ops) (p .w) lo hi i
+      → Tabled flow (entriesOf (columnsOf c)) n (length c) (p .ops) (p .w) lo hi i
   finished-tabled wanted low high =
       let x = f .filled .index in
       record {
@@ -68,7 +68,7 @@ module _ {flow : Flow} {p : Plan} (plan : Planned flow p) (c : List (List ℕ)) 
         wanted = wanted;
       }
 
-  pub finished-held : Held flow cells
+  pub finished-held : Suffices flow cells
   finished-held = record { number = n; count = finished-count plan f refl; few = f .within }
 
 -- ---- what is answered for a legal flow
@@ -87,7 +87,7 @@ module _ (flow : Flow) (i : ℕ) (e : Exit) (cells : ℕ) (row row′ : List ℤ
   unfolding Answered
   full-answered same w o q = refused-answered TooFewCells q (too-few-cells w o, record { answer = q; same-row = same })
 
-  pub done-answered : Wanted flow i → Held flow cells → {tapes : ℕ} → tapes ≡ flow .tapes
+  pub done-answered : Wanted flow i → Suffices flow cells → {tapes : ℕ} → tapes ≡ flow .tapes
       → PickedIs flow tapes i e row row′ a (a .end) → Answered flow i e cells row row′ a (a .end)
   unfolding PickedIs Answered
   done-answered w held {tapes} t h = go (a .end) h

@@ -17,7 +17,7 @@ use Rattle.model.specs.Configuration.{Configuration}
 use Rattle.model.specs.Sample.{Near}
 use Rattle.model.proofs.Integers.{Inside}
 use Rattle.model.proofs.Lists.{All, all-replicate, getD-like}
-use Rattle.model.proofs.View.{literal, View, reads, sets, tests, goes, stops, viewAt, at, stepView, exitView, step-view, exit-view, Legal}
+use Rattle.model.proofs.View.{literal, View, reads, sets, tests, goes, stops, viewAt, laneValue, stepView, exitView, step-view, exit-view, LegalFlow}
 use Rattle.model.proofs.Side.{spread, inside-near}
 use Rattle.model.proofs.Ranks.{pattern-alike, alike-spread}
 use Rattle.model.proofs.Alike.{Alike, alike-set, fits-term}
@@ -29,8 +29,8 @@ use Rattle.model.proofs.Pad.{wider}
 use Rattle.model.specs.Tapes.{total}
 use Rattle.tapes.specs.Layout.{tapesAt}
 use Rattle.tapes.specs.Choices.{chosen, moveOf, recordOf}
-use Rattle.tapes.specs.Reading.{firstWalk, written, walkAfter, rowAfter, valuesAfter}
-use Rattle.tapes.specs.Fit.{Bounded, Fit}
+use Rattle.tapes.specs.Reading.{firstWalk, tapesWritten, walkAfter, rowAfter, silentValues}
+use Rattle.tapes.specs.Fit.{Bounded, WalkFits}
 use Rattle.tapes.specs.declared.Choice.{Choice}
 use Rattle.tapes.specs.declared.Walk.{Walk}
 use Rattle.tapes.proofs.Granted.{choice-makes}
@@ -46,12 +46,12 @@ pub record Fed (lo hi : ℤ) (c c′ : Configuration) (a u p : ℕ) : Type 0 whe
   pub is : fedWith lo hi u p y c ≡ c′
 
 -- an exit by which no record is read
-abbrev pub Silent : View → Option Exit → Type 0
-Silent (reads a v p m) o = o ≡ some m-exit
-Silent (sets t v n) o = Unit {0}
-Silent (tests x y p m) o = Unit {0}
-Silent (goes n) o = Unit {0}
-Silent stops o = Unit {0}
+abbrev pub SilentStep : View → Option Exit → Type 0
+SilentStep (reads a v p m) o = o ≡ some m-exit
+SilentStep (sets t v n) o = Unit {0}
+SilentStep (tests x y p m) o = Unit {0}
+SilentStep (goes n) o = Unit {0}
+SilentStep stops o = Unit {0}
 
 module _ (lo hi : ℤ) (flow : Flow) where
   fed-edge : (c c′ : Configuration) (o : Option Exit) → Edge lo hi flow c o c′ → o ≡ some p-exit
@@ -72,7 +72,7 @@ module _ (lo hi : ℤ) (flow : Flow) where
         is = λ k. fedWith lo hi (sym qu k) (sym qp k) y c;
       }
 
-  values-after : (w : View) (k : ℕ) (v : List ℤ) (e : List Bool) → stepView w (resting flow k v e) .variables ≡ valuesAfter w v
+  values-after : (w : View) (k : ℕ) (v : List ℤ) (e : List Bool) → stepView w (resting flow k v e) .variables ≡ silentValues w v
   values-after (reads a u p m) k v e = rw (getD-like {A = List ℤ} (flow .tapes) a []) refl
   values-after (sets t u n) k v e = refl
   values-after (tests x y p m) k v e = refl
@@ -80,12 +80,12 @@ module _ (lo hi : ℤ) (flow : Flow) where
   values-after stops k v e = refl
 
 -- ---- the start
-none-written : (sizes : List ℕ) (row : List ℤ) → written (firstWalk sizes) row ≡ replicate 3 []
+none-written : (sizes : List ℕ) (row : List ℤ) → tapesWritten (firstWalk sizes) row ≡ replicate 3 []
 unfolding tapesAt
 none-written sizes row = refl
 
 pub fit-first : {lo hi : ℤ} → Inside lo hi (pos 0) → (sizes : List ℕ) (row : List ℤ) → length sizes ≡ 3 → Bounded lo hi (total sizes)
-    → total sizes ≤ length row → Fit lo hi sizes (firstWalk sizes) row
+    → total sizes ≤ length row → WalkFits lo hi sizes (firstWalk sizes) row
 unfolding total
 fit-first {lo} {hi} z sizes row h b n = record {
   bounded = b;
@@ -98,19 +98,19 @@ fit-first {lo} {hi} z sizes row h b n = record {
 }
 
 -- with four variables and three tapes, whatever the flow names
-pub follows-first : {lo hi : ℤ} (flow : Flow) → Legal lo hi (wider 3 4 flow) → (sizes : List ℕ) (row : List ℤ)
-    → Follows lo hi (wider 3 4 flow) 0 0 (written (firstWalk sizes) row) (firstWalk sizes .values) (origin lo hi (wider 3 4 flow))
+pub follows-first : {lo hi : ℤ} (flow : Flow) → LegalFlow lo hi (wider 3 4 flow) → (sizes : List ℕ) (row : List ℤ)
+    → Follows lo hi (wider 3 4 flow) 0 0 (tapesWritten (firstWalk sizes) row) (firstWalk sizes .values) (origin lo hi (wider 3 4 flow))
 follows-first {lo} {hi} flow l sizes row =
     let wide = wider 3 4 flow in
     subst (λ (ts : List (List ℤ)). Follows lo hi wide 0 0 ts (firstWalk sizes .values) (origin lo hi wide)) (sym (none-written sizes row))
     (follows-start l)
 
 -- ---- a step
-module _ {lo hi : ℤ} {flow : Flow} (l : Legal lo hi flow) where
+module _ {lo hi : ℤ} {flow : Flow} (l : LegalFlow lo hi flow) where
   -- an edge that reads no record
   module _ {n r : ℕ} {tapes : List (List ℤ)} {v : List ℤ} {c : Configuration} (q : Follows lo hi flow n r tapes v c) where
-    pub follows-silent : (c′ : Configuration) (o : Option Exit) → Edge lo hi flow c o c′ → Silent (viewAt flow (c .next)) o
-        → Follows lo hi flow (suc n) r tapes (valuesAfter (viewAt flow (c .next)) v) c′
+    pub follows-silent : (c′ : Configuration) (o : Option Exit) → Edge lo hi flow c o c′ → SilentStep (viewAt flow (c .next)) o
+        → Follows lo hi flow (suc n) r tapes (silentValues (viewAt flow (c .next)) v) c′
         × ((x : Exit) → o ≡ some x → Takes flow tapes (c .next) x (suc n))
     follows-silent c′ o still s = (
       subst (λ (u : List ℤ). Follows lo hi flow (suc n) r tapes u c′) same (follows-still l q),
@@ -120,10 +120,10 @@ module _ {lo hi : ℤ} {flow : Flow} (l : Legal lo hi flow) where
         here : State
         here = resting flow (c .next) v (c .ended)
 
-        same : step flow here .variables ≡ valuesAfter (viewAt flow (c .next)) v
+        same : step flow here .variables ≡ silentValues (viewAt flow (c .next)) v
         same = ap (λ (t : State). t .variables) (step-view flow here) ∙ values-after lo hi flow (viewAt flow (c .next)) (c .next) v (c .ended)
     follows-silent c′ o (fed a u p m y i open-still near) s =
-        let e : some p-exit ≡ some m-exit = subst (λ (w : View). Silent w (some p-exit)) i s in
+        let e : some p-exit ≡ some m-exit = subst (λ (w : View). SilentStep w (some p-exit)) i s in
         let z : _≡_ {A = ℕ} 0 1 = cc in
         absurd (omega arith)
 
@@ -139,16 +139,16 @@ module _ {lo hi : ℤ} {flow : Flow} (l : Legal lo hi flow) where
         pattern-alike (l .zero) (alike-set u like (fits-term (literal (pos 0)) (l .zero) like))
 
   -- an edge that takes p of a read
-  module _ {n r : ℕ} {sizes : List ℕ} {walk : Walk} {row : List ℤ} {c : Configuration} (fit : Fit lo hi sizes walk row)
-      (q : Follows lo hi flow n r (written walk row) (walk .values) c) (a u p m : ℕ) (i : viewAt flow (c .next) ≡ reads a u p m)
+  module _ {n r : ℕ} {sizes : List ℕ} {walk : Walk} {row : List ℤ} {c : Configuration} (fit : WalkFits lo hi sizes walk row)
+      (q : Follows lo hi flow n r (tapesWritten walk row) (walk .values) c) (a u p m : ℕ) (i : viewAt flow (c .next) ≡ reads a u p m)
       (known : a < 3) (free : getD (walk .counts) a 0 < getD sizes a 0) (w : List ℤ) where
     abbrev ch : Choice
     ch = chosen lo hi w (walk .values) u
 
     abbrev tapes′ : List (List ℤ)
-    tapes′ = written (walkAfter ch a u walk) (rowAfter ch a walk row)
+    tapes′ = tapesWritten (walkAfter ch a u walk) (rowAfter ch a walk row)
 
-    same : tapes′ ≡ append (map (map (moveOf ch)) (written walk row)) a (recordOf ch)
+    same : tapes′ ≡ append (map (map (moveOf ch)) (tapesWritten walk row)) a (recordOf ch)
     same = read-tapes fit ch a u known free
 
     module _ (c′ : Configuration) (x : Edge lo hi flow c (some p-exit) c′) (e : pattern lo hi w ≡ c′ .marks) where
@@ -159,10 +159,10 @@ module _ {lo hi : ℤ} {flow : Flow} (l : Legal lo hi flow) where
       wish = e ∙ ap (λ (d : Configuration). d .marks) (sym (by .is))
 
       grants : Grants lo hi u w (walk .values) (moveOf ch) (recordOf ch)
-      grants = choice-makes (l .zero) (wish-like l q u p (by .y) w wish) (at w u)
+      grants = choice-makes (l .zero) (wish-like l q u p (by .y) w wish) (laneValue w u)
 
       pub follows-read : Follows lo hi flow (suc n) (suc r)
-          (written (walkAfter (chosen lo hi w (walk .values) u) a u walk) (rowAfter (chosen lo hi w (walk .values) u) a walk row))
+          (tapesWritten (walkAfter (chosen lo hi w (walk .values) u) a u walk) (rowAfter (chosen lo hi w (walk .values) u) a walk row))
           (walkAfter (chosen lo hi w (walk .values) u) a u walk .values) c′
       follows-read =
           subst (Follows lo hi flow (suc n) (suc r) tapes′ (walkAfter ch a u walk .values)) (by .is)
@@ -171,7 +171,7 @@ module _ {lo hi : ℤ} {flow : Flow} (l : Legal lo hi flow) where
           (follows-fed l q u p (by .y) w wish a m i (by .open-still) (moveOf ch) (recordOf ch) grants))
 
       pub takes-read : Takes flow
-          (written (walkAfter (chosen lo hi w (walk .values) u) a u walk) (rowAfter (chosen lo hi w (walk .values) u) a walk row))
+          (tapesWritten (walkAfter (chosen lo hi w (walk .values) u) a u walk) (rowAfter (chosen lo hi w (walk .values) u) a walk row))
           (c .next) p-exit (suc n)
       takes-read =
           subst (λ (ts : List (List ℤ)). Takes flow ts (c .next) p-exit (suc n)) (sym same)

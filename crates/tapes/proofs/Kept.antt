@@ -11,7 +11,7 @@ use Rattle.model.specs.Language.{Flow}
 use Rattle.model.specs.Sample.{Near}
 use Rattle.model.proofs.Integers.{zarith, Inside}
 use Rattle.model.proofs.Lists.{All, all-getD, all-set, all-snoc, all-map, all-weaker, map-same}
-use Rattle.model.proofs.View.{View, reads, sets, tests, goes, stops, viewAt, term, Legal, Sound, sound, known}
+use Rattle.model.proofs.View.{View, reads, sets, tests, goes, stops, viewAt, term, LegalFlow, SoundView, sound, known}
 use Rattle.model.proofs.Side.{inside-near}
 use Rattle.model.proofs.Room.{near-term}
 use Rattle.model.proofs.Runs.{append}
@@ -19,8 +19,8 @@ use Rattle.model.specs.Tapes.{tapesIn, total}
 use Rattle.tapes.specs.Moves.{moved, Movable}
 use Rattle.tapes.specs.Layout.{tapesAt, Apart, Laid}
 use Rattle.tapes.specs.Choices.{chosen, moveOf, recordOf}
-use Rattle.tapes.specs.Reading.{written, nextCell, roomed, walkAfter, rowAfter, silentAfter, Ready}
-use Rattle.tapes.specs.Fit.{Fit}
+use Rattle.tapes.specs.Reading.{tapesWritten, nextCell, roomed, walkAfter, rowAfter, silentAfter, Ready}
+use Rattle.tapes.specs.Fit.{WalkFits}
 use Rattle.tapes.specs.declared.Choice.{Choice}
 use Rattle.tapes.specs.declared.Choice.the-variants.{Take, Between}
 use Rattle.tapes.specs.declared.Walk.{Walk}
@@ -46,7 +46,7 @@ module _ (ss ks : List ℕ) (row : List ℤ) where
   roomed-behind (Take x) end r n = refl
   roomed-behind (Between up m) end r n = parts-behind (moved up m) 0 end ss ks row r n
 
-module _ {lo hi : ℤ} {sizes : List ℕ} {walk : Walk} {row : List ℤ} (fit : Fit lo hi sizes walk row) where
+module _ {lo hi : ℤ} {sizes : List ℕ} {walk : Walk} {row : List ℤ} (fit : WalkFits lo hi sizes walk row) where
   abbrev r : ℕ
   r = total (walk .counts)
 
@@ -67,7 +67,7 @@ module _ {lo hi : ℤ} {sizes : List ℕ} {walk : Walk} {row : List ℤ} (fit : 
       tape = ha;
       variable = hu;
       apart = apart (length row) (fit .long);
-      records = all-weaker (All (Near lo hi r)) (All Movable) (nears-movable (fit .bounded) r few) (written walk row) (fit .near);
+      records = all-weaker (All (Near lo hi r)) (All Movable) (nears-movable (fit .bounded) r few) (tapesWritten walk row) (fit .near);
       values = nears-movable (fit .bounded) r few (walk .values) (fit .values-near);
       cell = let n = fit .long in omega (arith, laid-cell (walk .starts) (walk .counts) sizes (fit .laid) a (omega (arith, fit .three)) free);
     },
@@ -76,7 +76,7 @@ module _ {lo hi : ℤ} {sizes : List ℕ} {walk : Walk} {row : List ℤ} (fit : 
   )
 
   -- all records written: the row holds the tapes one after another
-  pub written-all : walk .counts ≡ sizes → written walk row ≡ tapesIn (walk .counts) row
+  pub written-all : walk .counts ≡ sizes → tapesWritten walk row ≡ tapesIn (walk .counts) row
   written-all e = laid-tapes 0 (walk .starts) (walk .counts) row (subst (Laid 0 (walk .starts) (walk .counts)) (sym e) (fit .laid))
 
   -- ---- a read, of any record
@@ -87,7 +87,7 @@ module _ {lo hi : ℤ} {sizes : List ℕ} {walk : Walk} {row : List ℤ} (fit : 
     size : length (roomed c (walk .starts) (walk .counts) row) ≡ length row
     size = roomed-length (walk .starts) (walk .counts) row c (apart (length row) (fit .long))
 
-    pub read-tapes : written (walkAfter c a u walk) (rowAfter c a walk row) ≡ append (map (map (moveOf c)) (written walk row)) a (recordOf c)
+    pub read-tapes : tapesWritten (walkAfter c a u walk) (rowAfter c a walk row) ≡ append (map (map (moveOf c)) (tapesWritten walk row)) a (recordOf c)
     read-tapes =
         store-tapes 0 (walk .starts) (walk .counts) sizes (roomed c (walk .starts) (walk .counts) row) (recordOf c) (fit .laid)
         (let n = fit .long in omega (arith, size)) a wide free
@@ -104,12 +104,12 @@ module _ {lo hi : ℤ} {sizes : List ℕ} {walk : Walk} {row : List ℤ} (fit : 
 
   -- ---- a read, whatever the wish
   pub fit-read : Inside lo hi (pos 0) → (w : List ℤ) (a u : ℕ) → a < 3 → getD (walk .counts) a 0 < getD sizes a 0
-      → Fit lo hi sizes (walkAfter (chosen lo hi w (walk .values) u) a u walk) (rowAfter (chosen lo hi w (walk .values) u) a walk row)
+      → WalkFits lo hi sizes (walkAfter (chosen lo hi w (walk .values) u) a u walk) (rowAfter (chosen lo hi w (walk .values) u) a walk row)
   fit-read z w a u ha free = record {
     bounded = fit .bounded;
     laid = laid-more 0 (walk .starts) (walk .counts) sizes (fit .laid) a free;
     long = let n = fit .long in omega (arith, read-length c a u ha free);
-    near = subst (λ (n : ℕ). All (All (Near lo hi n)) (written walk′ row′)) (sym more)
+    near = subst (λ (n : ℕ). All (All (Near lo hi n)) (tapesWritten walk′ row′)) (sym more)
         (subst (All (All (Near lo hi (suc r)))) (sym (read-tapes c a u ha free))
         (all-set (All (Near lo hi (suc r))) base a (getD base a [] ++ (recordOf c ∷ [])) base-near
         (all-snoc (Near lo hi (suc r)) (getD base a []) (recordOf c) (all-getD (All (Near lo hi (suc r))) base a [] base-near tt) new)));
@@ -135,20 +135,20 @@ module _ {lo hi : ℤ} {sizes : List ℕ} {walk : Walk} {row : List ℤ} (fit : 
       moves-near = all-map (Near lo hi r) (Near lo hi (suc r)) (moveOf c) (move-near z r c)
 
       base : List (List ℤ)
-      base = map (map (moveOf c)) (written walk row)
+      base = map (map (moveOf c)) (tapesWritten walk row)
 
       base-near : All (All (Near lo hi (suc r))) base
-      base-near = all-map (All (Near lo hi r)) (All (Near lo hi (suc r))) (map (moveOf c)) moves-near (written walk row) (fit .near)
+      base-near = all-map (All (Near lo hi r)) (All (Near lo hi (suc r))) (map (moveOf c)) moves-near (tapesWritten walk row) (fit .near)
 
       new : Near lo hi (suc r) (recordOf c)
       new = choice-near z r (getD w u (pos 0)) (set w u (pos 0)) (set (walk .values) u (pos 0))
           (all-set (Near lo hi r) (walk .values) u (pos 0) (fit .values-near) (inside-near r z))
 
   -- ---- a step that reads no record
-  pub fit-silent : {flow : Flow} → Legal lo hi flow → (k : ℕ) → Fit lo hi sizes (silentAfter (viewAt flow k) walk) row
+  pub fit-silent : {flow : Flow} → LegalFlow lo hi flow → (k : ℕ) → WalkFits lo hi sizes (silentAfter (viewAt flow k) walk) row
   fit-silent {flow} l k = go (viewAt flow k) (sound l k)
     where
-      go : (w : View) → Sound lo hi flow w → Fit lo hi sizes (silentAfter w walk) row
+      go : (w : View) → SoundView lo hi flow w → WalkFits lo hi sizes (silentAfter w walk) row
       go (reads a v p m) h = fit
       go (sets t v n) h = record {
         bounded = fit .bounded;

@@ -10,25 +10,25 @@ use Rattle.model.specs.Machine.{Exit}
 use Rattle.model.specs.Distance.{Takes, Distance}
 use Rattle.model.specs.Configuration.{Configuration}
 use Rattle.model.specs.Sample.{Sample}
-use Rattle.model.proofs.View.{Legal}
+use Rattle.model.proofs.View.{LegalFlow}
 use Rattle.model.proofs.Follow.{stands-sample}
 use Rattle.model.proofs.Path.{Follows}
 use Rattle.model.proofs.Pad.{wider, legal-wider, distance-widen, sample-narrow}
 use Rattle.model.specs.Tapes.{tapesIn}
-use Rattle.tapes.specs.Reading.{written}
-use Rattle.tapes.specs.Fit.{Fit}
+use Rattle.tapes.specs.Reading.{tapesWritten}
+use Rattle.tapes.specs.Fit.{WalkFits}
 use Rattle.tapes.specs.declared.Walk.{Walk}
 use Rattle.tapes.proofs.Sized.{take-tapes}
 use Rattle.tapes.proofs.Kept.{written-all}
 
-module _ {lo hi : ℤ} {flow : Flow} (l : Legal lo hi flow) (few-tapes : flow .tapes ≤ 3) (few-values : flow .variables ≤ 4)
-    {sizes : List ℕ} {walk : Walk} {row : List ℤ} (fit : Fit lo hi sizes walk row) (all : walk .counts ≡ sizes) where
-  pub sample-written : {d r : ℕ} {v : List ℤ} {c : Configuration} → Follows lo hi (wider 3 4 flow) d r (written walk row) v c
-      → (i : ℕ) (x : Exit) → Distance flow i x d → Takes (wider 3 4 flow) (written walk row) i x d
+module _ {lo hi : ℤ} {flow : Flow} (l : LegalFlow lo hi flow) (few-tapes : flow .tapes ≤ 3) (few-values : flow .variables ≤ 4)
+    {sizes : List ℕ} {walk : Walk} {row : List ℤ} (fit : WalkFits lo hi sizes walk row) (all : walk .counts ≡ sizes) where
+  pub sample-written : {d r : ℕ} {v : List ℤ} {c : Configuration} → Follows lo hi (wider 3 4 flow) d r (tapesWritten walk row) v c
+      → (i : ℕ) (x : Exit) → Distance flow i x d → Takes (wider 3 4 flow) (tapesWritten walk row) i x d
       → Sample lo hi flow i x d (tapesIn (take (flow .tapes) (walk .counts)) row)
   sample-written {d} q i x dist t =
       let far = distance-widen l 3 4 few-tapes few-values i x d dist in
       let wide = stands-sample (legal-wider l 3 4 few-tapes few-values) (q .stands) i x far t in
-      let same : take (flow .tapes) (written walk row) ≡ tapesIn (take (flow .tapes) (walk .counts)) row
+      let same : take (flow .tapes) (tapesWritten walk row) ≡ tapesIn (take (flow .tapes) (walk .counts)) row
       = ap (take (flow .tapes)) (written-all fit all) ∙ take-tapes (flow .tapes) (walk .counts) row in
-      subst (Sample lo hi flow i x d) same (sample-narrow l 3 4 few-tapes few-values i x d (written walk row) wide .0)
+      subst (Sample lo hi flow i x d) same (sample-narrow l 3 4 few-tapes few-values i x d (tapesWritten walk row) wide .0)

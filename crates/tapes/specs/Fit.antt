@@ -12,7 +12,7 @@ use Rattle.model.proofs.Lists.{All}
 use Rattle.model.specs.Tapes.{total}
 use Rattle.flow.specs.Limits.{maxTapes, maxVariables}
 use Rattle.tapes.specs.Layout.{Laid}
-use Rattle.tapes.specs.Reading.{written}
+use Rattle.tapes.specs.Reading.{tapesWritten}
 use Rattle.tapes.specs.declared.Walk.{Walk}
 
 -- no sample has more records
@@ -27,11 +27,11 @@ pub record Bounded (lo hi : ℤ) (records : ℕ) : Type 0 where
 
 -- the parts of the sizes lie in the row; after as many reads as there are records, r, each record and each value lies from lo less r
 -- to hi plus r
-pub record Fit (lo hi : ℤ) (sizes : List ℕ) (walk : Walk) (row : List ℤ) : Type 0 where
+pub record WalkFits (lo hi : ℤ) (sizes : List ℕ) (walk : Walk) (row : List ℤ) : Type 0 where
   pub bounded : Bounded lo hi (total sizes)
   pub laid : Laid 0 (walk .starts) (walk .counts) sizes
   pub long : total sizes ≤ length row
-  pub near : All (All (Near lo hi (total (walk .counts)))) (written walk row)
+  pub near : All (All (Near lo hi (total (walk .counts)))) (tapesWritten walk row)
   pub values-near : All (Near lo hi (total (walk .counts))) (walk .values)
   pub three : length (walk .starts) ≡ maxTapes
   pub four : length (walk .values) ≡ maxVariables

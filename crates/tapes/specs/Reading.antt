@@ -23,8 +23,8 @@ firstWalk sizes = record {
 }
 
 -- the tapes written so far
-abbrev pub written : Walk → List ℤ → List (List ℤ)
-written walk row = tapesAt (walk .starts) (walk .counts) row
+abbrev pub tapesWritten : Walk → List ℤ → List (List ℤ)
+tapesWritten walk row = tapesAt (walk .starts) (walk .counts) row
 
 -- the cell for the next record of tape a
 abbrev pub nextCell : Walk → ℕ → ℕ
@@ -47,21 +47,21 @@ abbrev pub rowAfter : Choice → (a : ℕ) → Walk → List ℤ → List ℤ
 rowAfter choice a walk row = set (roomed choice (walk .starts) (walk .counts) row) (nextCell walk a) (recordOf choice)
 
 -- the values after a step that reads no record
-abbrev pub valuesAfter : View → List ℤ → List ℤ
-valuesAfter (reads a v p m) values = values
-valuesAfter (sets t v n) values = set values v (term values t)
-valuesAfter (tests x y p m) values = values
-valuesAfter (goes n) values = values
-valuesAfter stops values = values
+abbrev pub silentValues : View → List ℤ → List ℤ
+silentValues (reads a v p m) values = values
+silentValues (sets t v n) values = set values v (term values t)
+silentValues (tests x y p m) values = values
+silentValues (goes n) values = values
+silentValues stops values = values
 
 abbrev pub silentAfter : View → Walk → Walk
-silentAfter w walk = record { values = valuesAfter w (walk .values); counts = walk .counts; starts = walk .starts }
+silentAfter w walk = record { values = silentValues w (walk .values); counts = walk .counts; starts = walk .starts }
 
 -- what the read asks: there is a cell for the record, and all numbers may move by one
 pub record Ready (walk : Walk) (a u : ℕ) (row : List ℤ) : Type 0 where
   pub tape : a < maxTapes
   pub variable : u < maxVariables
   pub apart : Apart 0 (walk .starts) (walk .counts) (length row)
-  pub records : All (All Movable) (written walk row)
+  pub records : All (All Movable) (tapesWritten walk row)
   pub values : All Movable (walk .values)
   pub cell : nextCell walk a < length row

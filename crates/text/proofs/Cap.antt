@@ -8,7 +8,7 @@ use native.Mathlib.Decide.{decLe}
 use native.Mathlib.Omega.{arith}
 use lib.IntN.{ℤ}
 use Rattle.text.specs.declared.Number.the-variants.{Value, Bad}
-use Rattle.text.specs.Capped.{capped, numberOf}
+use Rattle.text.specs.Capped.{capped, cappedNumber}
 
 pub test-cut : (test : ℕ → Bool) (out : Bool) (m n : ℕ) → ((k : ℕ) → m ≤ k → test k ≡ out) → test (min n m) ≡ test n
 test-cut test out m n beyond = by (decLe n m)
@@ -22,12 +22,12 @@ test-cut test out m n beyond = by (decLe n m)
 pub bad-no-value : {v : ℤ} → Bad ≡ Value v → ⊥
 bad-no-value e = let clash : _≡_ {A = ℕ} 0 1 = cc in omega arith
 
-pub number-bad : (written : Option ℤ) → numberOf written ≡ Bad → written ≡ none
-unfolding numberOf
+pub number-bad : (written : Option ℤ) → cappedNumber written ≡ Bad → written ≡ none
+unfolding cappedNumber
 number-bad none e = refl
 number-bad (some z) e = absurd (bad-no-value (sym e))
 
-pub number-value : (written : Option ℤ) (v : ℤ) → numberOf written ≡ Value v → (z : ℤ) × (written ≡ some z) × (v ≡ capped z)
-unfolding numberOf
+pub number-value : (written : Option ℤ) (v : ℤ) → cappedNumber written ≡ Value v → (z : ℤ) × (written ≡ some z) × (v ≡ capped z)
+unfolding cappedNumber
 number-value none v e = absurd (bad-no-value e)
 number-value (some z) v e = (z, refl, cc)

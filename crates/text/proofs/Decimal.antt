@@ -12,7 +12,7 @@ use lib.Dec.{eqb, leb}
 use lib.IntN.{ℤ, pos, negsuc, natAbs}
 use lib.ListN.{length, length-append}
 use Rattle.text.specs.Number.{digitsAfter, natural, negative, numeral}
-use Rattle.text.specs.Write.{next, counted, decimal, signed}
+use Rattle.text.specs.Write.{next, countedDigits, decimal, signed}
 use Rattle.text.proofs.Digits.{natural-zero}
 use Rattle.text.proofs.Joined.{Past}
 
@@ -23,15 +23,15 @@ none-no-some e = let clash : _≡_ {A = ℕ} 0 1 = cc in omega arith
 -- the digits of n, the last first, where 0 has none
 abbrev front : ℕ → List ℕ
 front zero = []
-front (suc n) = counted (suc n)
+front (suc n) = countedDigits (suc n)
 
 front-next : (n : ℕ) → front (suc n) ≡ next (front n)
-unfolding next counted
+unfolding next countedDigits
 front-next zero = refl
 front-next (suc n) = refl
 
-units : (n d : ℕ) → d < 10 → counted (n * 10) ≡ 48 ∷ front n → counted (n * 10 + d) ≡ (48 + d) ∷ front n
-unfolding next counted
+units : (n d : ℕ) → d < 10 → countedDigits (n * 10) ≡ 48 ∷ front n → countedDigits (n * 10 + d) ≡ (48 + d) ∷ front n
+unfolding next countedDigits
 units n zero l e = let z : n * 10 + 0 ≡ n * 10 = omega arith in rw z e
 units n (suc d) l e =
     let s : n * 10 + suc d ≡ suc (n * 10 + d) = omega arith in
@@ -39,8 +39,8 @@ units n (suc d) l e =
     let m : eqb (48 + d) 57 ≡ false = ne-eqb (48 + d) 57 (λ q. omega arith) in
     rw (s, t, units n d (omega arith) e, m)
 
-tens : (n : ℕ) → counted (n * 10) ≡ 48 ∷ front n
-unfolding next counted
+tens : (n : ℕ) → countedDigits (n * 10) ≡ 48 ∷ front n
+unfolding next countedDigits
 tens zero = refl
 tens (suc n) =
     let s : suc n * 10 ≡ suc (n * 10 + 9) = omega arith in
@@ -48,26 +48,26 @@ tens (suc n) =
 
 pub one-digit : (d : ℕ) → d < 10 → decimal d ≡ (48 + d) ∷ []
 unfolding decimal
-one-digit d l = let z : d ≡ 0 * 10 + d = omega arith in ap (λ (n : ℕ). reverse (counted n)) z ∙ ap reverse (units 0 d l (tens 0))
+one-digit d l = let z : d ≡ 0 * 10 + d = omega arith in ap (λ (n : ℕ). reverse (countedDigits n)) z ∙ ap reverse (units 0 d l (tens 0))
 
 pub more-digits : (n d : ℕ) → 0 < n → d < 10 → decimal (n * 10 + d) ≡ decimal n ++ ((48 + d) ∷ [])
 unfolding decimal
 more-digits zero d z l = absurd (omega arith)
-more-digits (suc n) d z l = ap reverse (units (suc n) d l (tens (suc n))) ∙ reverse-cons (48 + d) (counted (suc n))
+more-digits (suc n) d z l = ap reverse (units (suc n) d l (tens (suc n))) ∙ reverse-cons (48 + d) (countedDigits (suc n))
 
 -- ---- a number without a minus
 -- one digit read
-pub record First (n : ℕ) (b : ℕ) (f : List ℕ) (m : ℕ) : Type 0 where
+pub record FirstDigit (n : ℕ) (b : ℕ) (f : List ℕ) (m : ℕ) : Type 0 where
   pub d : ℕ
   pub small : d < 10
   pub byte : b ≡ 48 + d
   pub rest : digitsAfter (n * 10 + d) f ≡ some m
 
-first-digit : (n b : ℕ) (f : List ℕ) (m : ℕ) → digitsAfter n (b ∷ f) ≡ some m → First n b f m
+first-digit : (n b : ℕ) (f : List ℕ) (m : ℕ) → digitsAfter n (b ∷ f) ≡ some m → FirstDigit n b f m
 unfolding digitsAfter
 first-digit n b f m e = by (leb 48 b) (leb b 57) refl refl e
   where
-    by : (t u : Bool) → leb 48 b ≡ t → leb b 57 ≡ u → cond (t && u) (digitsAfter (n * 10 + (b - 48)) f) none ≡ some m → First n b f m
+    by : (t u : Bool) → leb 48 b ≡ t → leb b 57 ≡ u → cond (t && u) (digitsAfter (n * 10 + (b - 48)) f) none ≡ some m → FirstDigit n b f m
     by true true lo hi e =
         let l = leb-true 48 b lo in
         let h = leb-true b 57 hi in
@@ -157,9 +157,9 @@ natural-written (b ∷ c ∷ f) n e =
     ∙ digits-written (0 * 10 + o .d) n (c ∷ f) led (o .rest))
 
 -- ---- a number with a minus or without: `minus` says whether it may have one
-abbrev pub written : Bool → ℤ → List ℕ
-written true z = signed z
-written false z = decimal (natAbs z)
+abbrev pub written-number : Bool → ℤ → List ℕ
+written-number true z = signed z
+written-number false z = decimal (natAbs z)
 
 natural-plain : (minus : Bool) (f : List ℕ) (n : ℕ) → natural f ≡ some n → numeral minus f ≡ some (pos n)
 unfolding numeral natural
@@ -176,22 +176,22 @@ signed-read (negsuc n) = rw (decimal-read (suc n))
 pub plain-read : (n : ℕ) → numeral false (decimal n) ≡ some (pos n)
 plain-read n = natural-plain false (decimal n) n (decimal-read n)
 
-pub numeral-written : (minus : Bool) (f : List ℕ) (z : ℤ) → numeral minus f ≡ some z → f ≡ written minus z
+pub numeral-written : (minus : Bool) (f : List ℕ) (z : ℤ) → numeral minus f ≡ some z → f ≡ written-number minus z
 unfolding numeral negative
 numeral-written minus [] z e = absurd (none-no-some e)
 numeral-written minus (b ∷ f) z e = by minus (eqb b 45) refl e
   where
-    plain : (m : Bool) (o : Option ℕ) → natural (b ∷ f) ≡ o → Option·map pos o ≡ some z → b ∷ f ≡ written m z
+    plain : (m : Bool) (o : Option ℕ) → natural (b ∷ f) ≡ o → Option·map pos o ≡ some z → b ∷ f ≡ written-number m z
     plain m none h e = absurd (none-no-some e)
-    plain true (some n) h e = let is : pos n ≡ z = cc in natural-written (b ∷ f) n h ∙ ap (written true) is
-    plain false (some n) h e = let is : pos n ≡ z = cc in natural-written (b ∷ f) n h ∙ ap (written false) is
+    plain true (some n) h e = let is : pos n ≡ z = cc in natural-written (b ∷ f) n h ∙ ap (written-number true) is
+    plain false (some n) h e = let is : pos n ≡ z = cc in natural-written (b ∷ f) n h ∙ ap (written-number false) is
 
     below : (o : Option ℕ) → natural f ≡ o → b ≡ 45 → negative o ≡ some z → b ∷ f ≡ signed z
     below none h m e = absurd (none-no-some e)
     below (some zero) h m e = absurd (none-no-some e)
     below (some (suc n)) h m e = let is : negsuc n ≡ z = cc in rw m (ap (_∷_ 45) (natural-written f (suc n) h) ∙ ap signed is)
 
-    by : (m t : Bool) → eqb b 45 ≡ t → cond t (cond m (negative (natural f)) none) (Option·map pos (natural (b ∷ f))) ≡ some z → b ∷ f ≡ written m z
+    by : (m t : Bool) → eqb b 45 ≡ t → cond t (cond m (negative (natural f)) none) (Option·map pos (natural (b ∷ f))) ≡ some z → b ∷ f ≡ written-number m z
     by m false h e = plain m (natural (b ∷ f)) refl e
     by true true h e = below (natural f) refl (eqb-true b 45 h) e
     by false true h e = absurd (none-no-some e)

@@ -19,16 +19,16 @@ use mir.Facts.{toZ-ofZ}
 use Rattle.text.specs.declared.Number.{Number}
 use Rattle.text.specs.declared.Number.the-variants.{Value, Bad}
 use Rattle.text.specs.Number.{isDigit, digitsAfter, natural, negative, numeral}
-use Rattle.text.specs.Capped.{cap, capped, numberOf}
+use Rattle.text.specs.Capped.{cap, capped, cappedNumber}
 use Rattle.text.proofs.Cap.{bad-no-value}
 
 -- the code's answer on a size
 abbrev pub answer : Option ℕ → Number
-answer size = numberOf (Option·map pos size)
+answer size = cappedNumber (Option·map pos size)
 
 -- ---- a run of digits
 pub capped-so-far : (n : ℕ) (bs : List ℕ) → answer (digitsAfter (min n cap) bs) ≡ answer (digitsAfter n bs)
-unfolding digitsAfter numberOf capped
+unfolding digitsAfter cappedNumber capped
 capped-so-far n [] =
     let twice : min (min n cap) cap ≡ min n cap = omega arith in
     ap (λ (m : ℕ). Value (pos m)) twice
@@ -48,7 +48,7 @@ capped-so-far n (b ∷ bs) =
     by false e = refl
 
 pub digits-end : (s : List ℕ) (i n : ℕ) → length s ≤ i → n ≤ cap → answer (digitsAfter n (drop i s)) ≡ Value (pos n)
-unfolding digitsAfter numberOf capped
+unfolding digitsAfter cappedNumber capped
 digits-end s i n h l =
     let low : min n cap ≡ n = omega arith in
     rw (drop-of-length-le s h, low)
@@ -98,11 +98,11 @@ numeral-empty minus [] h = refl
 numeral-empty minus (b ∷ bs) h = absurd (omega arith)
 
 -- what stands behind the first byte, as the code takes it
-abbrev pub behind : List ℕ → List ℕ
-behind s = take (length s - 1) (drop 1 s)
+abbrev pub digitsBehind : List ℕ → List ℕ
+digitsBehind s = take (length s - 1) (drop 1 s)
 
 numeral-signed : (minus : Bool) (s : List ℕ) → 0 < length s →
-    numeral minus s ≡ cond (eqb (getD s 0 0) 45) (cond minus (negative (natural (behind s))) none) (Option·map pos (natural s))
+    numeral minus s ≡ cond (eqb (getD s 0 0) 45) (cond minus (negative (natural (digitsBehind s))) none) (Option·map pos (natural s))
 unfolding numeral
 numeral-signed minus [] h = absurd (omega arith)
 numeral-signed minus (b ∷ bs) h = rw (take-all (length (b ∷ bs) - 1) bs (omega arith))
@@ -115,17 +115,17 @@ module _ (minus : Bool) (s : List ℕ) (h : 0 < length s) where
     pub numeral-barred : minus ≡ false → numeral minus s ≡ none
     numeral-barred m = rw (numeral-signed minus s h, eq-eqb _ _ e, m)
 
-    pub numeral-minus : minus ≡ true → numeral minus s ≡ negative (natural (behind s))
+    pub numeral-minus : minus ≡ true → numeral minus s ≡ negative (natural (digitsBehind s))
     numeral-minus m = rw (numeral-signed minus s h, eq-eqb _ _ e, m)
 
 -- ---- the size behind a minus, which the code holds as v in 64 bits
 size-bad : (size : Option ℕ) → answer size ≡ Bad → size ≡ none
-unfolding numberOf
+unfolding cappedNumber
 size-bad none e = refl
 size-bad (some n) e = absurd (bad-no-value (sym e))
 
 size-value : (size : Option ℕ) (v : ℤ) → answer size ≡ Value v → (n : ℕ) × (size ≡ some n) × (v ≡ pos (min n cap))
-unfolding numberOf capped
+unfolding cappedNumber capped
 size-value none v e = absurd (bad-no-value e)
 size-value (some n) v e = (n, refl, cc)
 
@@ -133,15 +133,15 @@ mag-negated : (n : ℕ) → n ≤ cap → mag (negℤ (pos n)) < 2 ^ 63
 mag-negated zero h = omega arith
 mag-negated (suc n) h = omega arith
 
-negated-capped : (n : ℕ) → (min n cap ≡ 0 → ⊥) → Value (negℤ (pos (min n cap))) ≡ numberOf (negative (some n))
-unfolding numberOf negative capped
+negated-capped : (n : ℕ) → (min n cap ≡ 0 → ⊥) → Value (negℤ (pos (min n cap))) ≡ cappedNumber (negative (some n))
+unfolding cappedNumber negative capped
 negated-capped zero h = absurd (h (omega arith))
 negated-capped (suc n) h =
     let less : min (suc n) cap ≡ suc (min n (cap - 1)) = omega arith in
     ap (λ (k : ℕ). Value (negℤ (pos k))) less
 
-pub minus-bad : (size : Option ℕ) → answer size ≡ Bad → Bad ≡ numberOf (negative size)
-unfolding numberOf negative
+pub minus-bad : (size : Option ℕ) → answer size ≡ Bad → Bad ≡ cappedNumber (negative size)
+unfolding cappedNumber negative
 minus-bad size e = rw (size-bad size e)
 
 module _ (size : Option ℕ) (v : ℤ) (read : answer size ≡ Value v) where
@@ -155,17 +155,17 @@ module _ (size : Option ℕ) (v : ℤ) (read : answer size ≡ Value v) where
       let (n, s, e) = size-value size v read in
       rw (held, e, +ℤ-idl (negℤ (pos (min n cap)))) (record { sfits = mag-negated (min n cap) (omega arith) })
 
-  pub minus-zero : ofZ w64 v ≡ 0 → Bad ≡ numberOf (negative size)
-  unfolding numberOf negative
+  pub minus-zero : ofZ w64 v ≡ 0 → Bad ≡ cappedNumber (negative size)
+  unfolding cappedNumber negative
   minus-zero z =
       let (n, s, e) = size-value size v read in
       let m : min n cap ≡ 0 = sym (ap (ofZ w64) e) ∙ z in
       let k : n ≡ 0 = omega arith in
       rw (s, k)
 
-  pub minus-value : (ofZ w64 v ≡ 0 → ⊥) → Value (toZ w64 (ofZ w64 (pos 0 -ℤ toZ w64 (ofZ w64 v)))) ≡ numberOf (negative size)
+  pub minus-value : (ofZ w64 v ≡ 0 → ⊥) → Value (toZ w64 (ofZ w64 (pos 0 -ℤ toZ w64 (ofZ w64 v)))) ≡ cappedNumber (negative size)
   minus-value z =
       let (n, s, e) = size-value size v read in
       ap Value (toZ-ofZ minus-fits ∙ ap (λ (k : ℤ). pos 0 -ℤ k) (held ∙ e) ∙ +ℤ-idl (negℤ (pos (min n cap))))
       ∙ negated-capped n (λ k. z (ap (ofZ w64) e ∙ k))
-      ∙ sym (ap (λ (q : Option ℕ). numberOf (negative q)) s)
+      ∙ sym (ap (λ (q : Option ℕ). cappedNumber (negative q)) s)

@@ -8,14 +8,14 @@ use native.Mathlib.Numerals.{add-one}
 use native.Mathlib.Omega.{arith}
 use lib.ListN.{length, getD, set, take, drop, length-drop, List·getD-eq-default}
 use lib.Seq.{drop-drop, getD-drop, getD-set-same, getD-set-other}
-use Rattle.text.specs.Split.{fields, until}
+use Rattle.text.specs.Split.{split, until}
 use Rattle.text.specs.Divided.{kept, begins, Between, Divided}
 use Rattle.text.proofs.Parts.{fields-at, fields-at-last, field-here}
 
 pub record Passed (line : List ℕ) (count : ℕ) (ends : List ℕ) (at : ℕ) : Type 0 where
   pub inside : at ≤ length line
   pub few : count ≤ at
-  pub rest : drop count (fields line) ≡ fields (drop at line)
+  pub rest : drop count (split line) ≡ split (drop at line)
   pub begun : count ≤ kept → begins ends count ≡ at
   pub between : (k : ℕ) → k < kept → k < count → Between line ends k
 
@@ -31,22 +31,22 @@ none-passed line count ends z = rw z (record {
 
 -- ---- the end of field `count` is kept
 -- `next` has it, if there is room, and the ends before it as `ends` has them
-pub record Stored (ends next : List ℕ) (count end : ℕ) : Type 0 where
+pub record EndStored (ends next : List ℕ) (count end : ℕ) : Type 0 where
   pub here : count < kept → getD next count 0 ≡ end
   pub before : (k : ℕ) → k < kept → k < count → getD next k 0 ≡ getD ends k 0
 
 module _ (ends : List ℕ) (count end : ℕ) where
-  pub room : length ends ≡ kept → count < kept → Stored ends (set ends count end) count end
+  pub room : length ends ≡ kept → count < kept → EndStored ends (set ends count end) count end
   room size h = record {
     here = λ l. getD-set-same ends count end 0 (omega arith);
     before = λ k l m. getD-set-other ends count k end 0 (λ q. omega arith);
   }
 
-  pub no-room : kept ≤ count → Stored ends ends count end
+  pub no-room : kept ≤ count → EndStored ends ends count end
   no-room h = record { here = λ l. absurd (omega arith); before = λ k l m. refl }
 
 -- the fields up to it begin where they did
-begins-same : (ends next : List ℕ) (count end : ℕ) → Stored ends next count end →
+begins-same : (ends next : List ℕ) (count end : ℕ) → EndStored ends next count end →
     (k : ℕ) → k ≤ kept → k ≤ count → begins next k ≡ begins ends k
 unfolding begins
 begins-same ends next count end stored zero h l = refl
@@ -54,13 +54,13 @@ begins-same ends next count end stored (suc k) h l = ap (λ (n : ℕ). n + 1) (s
 
 -- ---- a further field, which ends at `end`
 module _ (line : List ℕ) (count : ℕ) (ends next : List ℕ) (at end : ℕ)
-    (passed : Passed line count ends at) (stored : Stored ends next count end)
+    (passed : Passed line count ends at) (stored : EndStored ends next count end)
     (found : end ≡ at + until 44 (drop at line)) (within : end ≤ length line) where
   -- it is the part from `at` on
-  field-is : getD (fields line) count [] ≡ take (end - at) (drop at line)
+  field-is : getD (split line) count [] ≡ take (end - at) (drop at line)
   field-is =
       let same : count + 0 ≡ count = omega arith in
-      (rw same at (sym (getD-drop count (fields line) 0 [])))
+      (rw same at (sym (getD-drop count (split line) 0 [])))
       ∙ ap (λ (fs : List (List ℕ)). getD fs 0 []) (passed .rest)
       ∙ field-here line at end found (passed .inside)
 
@@ -84,7 +84,7 @@ module _ (line : List ℕ) (count : ℕ) (ends next : List ℕ) (at end : ℕ)
   one-passed total more h = rw more (record {
     inside = omega arith;
     few = omega arith;
-    rest = sym (drop-drop 1 count (fields line)) ∙ ap (drop 1) (passed .rest ∙ fields-at line at end found h);
+    rest = sym (drop-drop 1 count (split line)) ∙ ap (drop 1) (passed .rest ∙ fields-at line at end found h);
     begun = λ l. rw (add-one count, stored .here (omega arith));
     between = between-next;
   })
@@ -92,7 +92,7 @@ module _ (line : List ℕ) (count : ℕ) (ends next : List ℕ) (at end : ℕ)
   pub all-passed : (total : ℕ) → total ≡ count + 1 → length line ≤ end → Divided line total next
   all-passed total more h =
       let one = ap length (passed .rest ∙ fields-at-last line at end found (passed .inside) h) in
-      rw more (record { counted = omega (arith, length-drop count (fields line)); between = between-next })
+      rw more (record { counted = omega (arith, length-drop count (split line)); between = between-next })
 
 -- ---- a field of a divided line
 module _ (ends : List ℕ) (k : ℕ) where
@@ -106,8 +106,8 @@ module _ (ends : List ℕ) (k : ℕ) where
 
 module _ (line ends : List ℕ) (k : ℕ) where
   pub field-cut : (start : ℕ) → begins ends k ≡ start → Between line ends k →
-      take (getD ends k 0 - start) (drop start line) ≡ getD (fields line) k []
+      take (getD ends k 0 - start) (drop start line) ≡ getD (split line) k []
   field-cut start starts f = rw starts at (f .part)
 
-  pub field-none : (count : ℕ) → Divided line count ends → count ≤ k → getD (fields line) k [] ≡ []
-  field-none count divided h = List·getD-eq-default (fields line) [] (omega arith)
+  pub field-none : (count : ℕ) → Divided line count ends → count ≤ k → getD (split line) k [] ≡ []
+  field-none count divided h = List·getD-eq-default (split line) [] (omega arith)

@@ -6,7 +6,7 @@ use mathlib.Core.Option.{Option, none, some}
 use Prim.Native.Nat.{ℕ}
 use lib.IntN.{ℤ, pos, negsuc}
 use lib.ListN.{replicate}
-use Rattle.text.specs.Split.{lead, parts, lines, fields}
+use Rattle.text.specs.Split.{lead, parts, lines, split}
 use Rattle.text.specs.Number.{digitsAfter, natural, negative, numeral}
 
 -- what a definition says, and what it ought to say
@@ -14,25 +14,25 @@ pub data Said : Type 0 where
   number : Option ℤ → Said
   divided : List (List ℕ) → Said
 
-pub record Case : Type 0 where
+pub record NumberCase : Type 0 where
   pub says : Said
   pub ought : Said
 
 -- a text as a field with and without the right to a minus
-abbrev signed : List ℕ → Option ℤ → Case
+abbrev signed : List ℕ → Option ℤ → NumberCase
 signed text z = record { says = number (numeral true text); ought = number z }
 
-abbrev unsigned : List ℕ → Option ℤ → Case
+abbrev unsigned : List ℕ → Option ℤ → NumberCase
 unsigned text z = record { says = number (numeral false text); ought = number z }
 
-abbrev linesOf : List ℕ → List (List ℕ) → Case
+abbrev linesOf : List ℕ → List (List ℕ) → NumberCase
 linesOf text ls = record { says = divided (lines text); ought = divided ls }
 
-abbrev fieldsOf : List ℕ → List (List ℕ) → Case
-fieldsOf line fs = record { says = divided (fields line); ought = divided fs }
+abbrev fieldsOf : List ℕ → List (List ℕ) → NumberCase
+fieldsOf line fs = record { says = divided (split line); ought = divided fs }
 
-abbrev pub cases : List Case
-cases =
+abbrev pub numberCases : List NumberCase
+numberCases =
     -- 0, -0, 00, 01, -01, a minus alone, nothing, +1
     signed (48 ∷ []) (some (pos 0))
     ∷ signed (45 ∷ 48 ∷ []) none
@@ -54,6 +54,6 @@ cases =
     ∷ linesOf (97 ∷ 10 ∷ 98 ∷ []) ((97 ∷ []) ∷ (98 ∷ []) ∷ [])
     ∷ []
 
-pub table : map (λ (c : Case). c .says) cases ≡ map (λ (c : Case). c .ought) cases
-unfolding numeral negative natural digitsAfter lines fields parts lead
-table = refl
+pub number-table : map (λ (c : NumberCase). c .says) numberCases ≡ map (λ (c : NumberCase). c .ought) numberCases
+unfolding numeral negative natural digitsAfter lines split parts lead
+number-table = refl

@@ -8,13 +8,13 @@ use native.Mathlib.Omega.{arith}
 use borrow.Author.Tests.{eqb-true, ne-eqb}
 use lib.Dec.{eqb}
 use lib.ListN.{length, getD}
-use Rattle.text.specs.Split.{lead, parts, lines, fields}
+use Rattle.text.specs.Split.{lead, parts, lines, split}
 use Rattle.text.specs.Write.{parted, ended}
 
 -- what holds of each of some parts
-abbrev pub Each : (List ℕ → Type 0) → List (List ℕ) → Type 0
-Each P [] = Unit {0}
-Each P (p ∷ ps) = P p × Each P ps
+abbrev pub EachPart : (List ℕ → Type 0) → List (List ℕ) → Type 0
+EachPart P [] = Unit {0}
+EachPart P (p ∷ ps) = P p × EachPart P ps
 
 -- every byte is greater than c
 abbrev pub Past : ℕ → List ℕ → Type 0
@@ -30,7 +30,7 @@ past-less b c l [] p = tt
 past-less b c l (x ∷ xs) (h, p) = (omega arith, past-less b c l xs p)
 
 -- fields without a comma or a byte below it make a line without byte 10
-pub parted-past : (fs : List (List ℕ)) → Each (Past 44) fs → Past 10 (parted fs)
+pub parted-past : (fs : List (List ℕ)) → EachPart (Past 44) fs → Past 10 (parted fs)
 unfolding parted
 parted-past [] p = tt
 parted-past (f ∷ []) (p, q) = past-less 10 44 (omega arith) f p
@@ -42,12 +42,12 @@ unfolding parts lead
 parts-front c end ps [] rest h e = e
 parts-front c end ps (x ∷ p) rest (h, hs) e = rw (ne-eqb x c (λ q. omega arith), parts-front c end ps p rest hs e)
 
-pub fields-parted : (f : List ℕ) (fs : List (List ℕ)) → Each (Past 44) (f ∷ fs) → fields (parted (f ∷ fs)) ≡ f ∷ fs
-unfolding fields parts parted
+pub fields-parted : (f : List ℕ) (fs : List (List ℕ)) → EachPart (Past 44) (f ∷ fs) → split (parted (f ∷ fs)) ≡ f ∷ fs
+unfolding split parts parted
 fields-parted f [] (p, q) = rw append-nil at (parts-front 44 ([] ∷ []) [] f [] p refl)
 fields-parted f (g ∷ fs) (p, q) = parts-front 44 ([] ∷ []) (g ∷ fs) f (44 ∷ parted (g ∷ fs)) p (ap (_∷_ []) (fields-parted g fs q))
 
-pub lines-ended : (ls : List (List ℕ)) → Each (Past 10) ls → lines (ended ls) ≡ ls
+pub lines-ended : (ls : List (List ℕ)) → EachPart (Past 10) ls → lines (ended ls) ≡ ls
 unfolding lines parts ended
 lines-ended [] p = refl
 lines-ended (l ∷ ls) (p, q) = parts-front 10 [] ls l (10 ∷ ended ls) p (ap (_∷_ []) (lines-ended ls q))
@@ -56,8 +56,8 @@ lines-ended (l ∷ ls) (p, q) = parts-front 10 [] ls l (10 ∷ ended ls) p (ap (
 no-nil : {A : Type 0} {x : A} {xs : List A} → x ∷ xs ≡ [] → ⊥
 no-nil e = let clash : _≡_ {A = ℕ} 0 1 = cc in omega arith
 
-some-field : (line : List ℕ) → fields line ≡ [] → ⊥
-unfolding fields parts lead
+some-field : (line : List ℕ) → split line ≡ [] → ⊥
+unfolding split parts lead
 some-field [] e = no-nil e
 some-field (x ∷ xs) e = by (eqb x 44) (parts 44 ([] ∷ []) xs) e
   where
@@ -66,8 +66,8 @@ some-field (x ∷ xs) e = by (eqb x 44) (parts 44 ([] ∷ []) xs) e
     by false [] e = no-nil e
     by false (p ∷ ps) e = no-nil e
 
-pub parted-fields : (line : List ℕ) → parted (fields line) ≡ line
-unfolding fields parts lead parted
+pub parted-fields : (line : List ℕ) → parted (split line) ≡ line
+unfolding split parts lead parted
 parted-fields [] = refl
 parted-fields (x ∷ xs) = by (eqb x 44) (parts 44 ([] ∷ []) xs) refl (some-field xs) (parted-fields xs)
   where

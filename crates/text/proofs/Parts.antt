@@ -12,7 +12,7 @@ use borrow.Author.Tests.{eq-eqb, ne-eqb}
 use lib.Dec.{eqb}
 use lib.ListN.{length, getD, take, drop, length-drop, drop-of-length-le}
 use lib.Seq.{drop-cons, drop-drop, take-all}
-use Rattle.text.specs.Split.{lead, parts, lines, fields, until}
+use Rattle.text.specs.Split.{lead, parts, lines, split, until}
 
 -- ---- the bytes before the first c
 module _ (c : ℕ) (s : List ℕ) (i : ℕ) where
@@ -103,22 +103,22 @@ module _ (s : List ℕ) (i : ℕ) where
 -- ---- fields
 module _ (s : List ℕ) (i e : ℕ) (found : e ≡ i + until 44 (drop i s)) where
   -- another field follows
-  pub fields-at : e < length s → fields (drop i s) ≡ take (e - i) (drop i s) ∷ fields (drop (e + 1) s)
-  unfolding fields
+  pub fields-at : e < length s → split (drop i s) ≡ take (e - i) (drop i s) ∷ split (drop (e + 1) s)
+  unfolding split
   fields-at h = parts-at 44 ([] ∷ []) s i e found h
 
   -- the last field
-  pub fields-at-last : i ≤ length s → length s ≤ e → fields (drop i s) ≡ take (e - i) (drop i s) ∷ []
-  unfolding fields parts lead
+  pub fields-at-last : i ≤ length s → length s ≤ e → split (drop i s) ≡ take (e - i) (drop i s) ∷ []
+  unfolding split parts lead
   fields-at-last l h = by (decLe (length s) i)
     where
       by : Dec (length s ≤ i) → parts 44 ([] ∷ []) (drop i s) ≡ take (e - i) (drop i s) ∷ []
       by (yes q) = rw (rest-is 44 ([] ∷ []) s i e found h, drop-of-length-le s q)
       by (no q) = parts-at-last 44 ([] ∷ []) s i e found h (λ x. refl) (omega arith)
 
-  pub field-here : i ≤ length s → getD (fields (drop i s)) 0 [] ≡ take (e - i) (drop i s)
+  pub field-here : i ≤ length s → getD (split (drop i s)) 0 [] ≡ take (e - i) (drop i s)
   field-here l = by (decLe (length s) e)
     where
-      by : Dec (length s ≤ e) → getD (fields (drop i s)) 0 [] ≡ take (e - i) (drop i s)
+      by : Dec (length s ≤ e) → getD (split (drop i s)) 0 [] ≡ take (e - i) (drop i s)
       by (yes h) = rw (fields-at-last l h)
       by (no h) = rw (fields-at (omega arith))

@@ -15,6 +15,6 @@ unfoldable pub capped : ℤ → ℤ
 capped (pos n) = pos (min n cap)
 capped (negsuc n) = negsuc (min n (cap - 1))
 
-unfoldable pub numberOf : Option ℤ → Number
-numberOf none = Bad
-numberOf (some z) = Value (capped z)
+unfoldable pub cappedNumber : Option ℤ → Number
+cappedNumber none = Bad
+cappedNumber (some z) = Value (capped z)

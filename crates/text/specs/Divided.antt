@@ -3,7 +3,7 @@ use mathlib.Core.Path.{_≡_}
 use mathlib.Core.List.{List, []}
 use Prim.Native.Nat.{ℕ, zero, suc, _+_, _-_, _≤_, _<_}
 use lib.ListN.{length, getD, take, drop}
-use Rattle.text.specs.Split.{fields}
+use Rattle.text.specs.Split.{split}
 
 -- the ends of so many fields are kept
 abbrev pub kept : ℕ
@@ -18,9 +18,9 @@ begins ends (suc k) = getD ends k 0 + 1
 pub record Between (line ends : List ℕ) (k : ℕ) : Type 0 where
   pub ordered : begins ends k ≤ getD ends k 0
   pub inside : getD ends k 0 ≤ length line
-  pub part : take (getD ends k 0 - begins ends k) (drop (begins ends k) line) ≡ getD (fields line) k []
+  pub part : take (getD ends k 0 - begins ends k) (drop (begins ends k) line) ≡ getD (split line) k []
 
 -- the line has `count` fields, and `ends` says where the first of them end
 pub record Divided (line : List ℕ) (count : ℕ) (ends : List ℕ) : Type 0 where
-  pub counted : count ≡ length (fields line)
+  pub counted : count ≡ length (split line)
   pub between : (k : ℕ) → k < kept → k < count → Between line ends k

@@ -20,8 +20,8 @@ unfoldable pub lines : List ℕ → List (List ℕ)
 lines text = parts 10 [] text
 
 -- the fields of a line: one more than it has commas
-unfoldable pub fields : List ℕ → List (List ℕ)
-fields line = parts 44 ([] ∷ []) line
+unfoldable pub split : List ℕ → List (List ℕ)
+split line = parts 44 ([] ∷ []) line
 
 -- how many bytes stand before the first byte c, or in all where there is none
 unfoldable pub until : ℕ → List ℕ → ℕ

@@ -12,13 +12,13 @@ next [] = 49 ∷ []
 next (b ∷ bs) = cond (eqb b 57) (48 ∷ next bs) (suc b ∷ bs)
 
 -- the digits of n, the last first, counted up from 0
-unfoldable pub counted : ℕ → List ℕ
-counted zero = 48 ∷ []
-counted (suc n) = next (counted n)
+unfoldable pub countedDigits : ℕ → List ℕ
+countedDigits zero = 48 ∷ []
+countedDigits (suc n) = next (countedDigits n)
 
 -- a number in digits; a number below 0 has a minus, byte 45, before its size
 unfoldable pub decimal : ℕ → List ℕ
-decimal n = reverse (counted n)
+decimal n = reverse (countedDigits n)
 
 abbrev pub signed : ℤ → List ℕ
 signed (pos n) = decimal n

@@ -5,10 +5,10 @@ ghost use mathlib.Core.Option.{Option·map};
 ghost use Prim.Native.Nat.{_+_, _-_, _*_, min, _≤_, _<_};
 ghost use lib.IntN.{pos};
 ghost use lib.ListN.{length, getD, drop};
-ghost use Rattle.text.specs.Split.{fields, until, sameWord};
+ghost use Rattle.text.specs.Split.{split, until, sameWord};
 ghost use Rattle.text.specs.Divided.{kept, Divided};
 ghost use Rattle.text.specs.Number.{digitsAfter, natural, numeral};
-ghost use Rattle.text.specs.Capped.{cap, numberOf};
+ghost use Rattle.text.specs.Capped.{cap, cappedNumber};
 
 // A field read as a number. A size above CAP is given as CAP, with its sign.
 pub enum Number {
@@ -67,7 +67,7 @@ pub fn divide(line: &[u8]) -> Fields
 // Field k of a divided line, counted from 0; the empty part at the line's start where there is none.
 pub fn field(line: &[u8], ends: [usize; Fields::KEPT], count: usize, k: usize) -> &[u8]
     requires { ⌜ Divided (now line) count ends × (k < kept) ⌝ }
-    ensures { λ r. ⌜ now r ≡ getD (fields (now (line .entry))) k [] ⌝ }
+    ensures { λ r. ⌜ now r ≡ getD (split (now (line .entry))) k [] ⌝ }
 {
     if count <= k {
         return &line[0..0];
@@ -111,7 +111,7 @@ fn with_digit(n: u64, digit: u8) -> u64
 
 // A run of digits, which may be empty and begin with zeros.
 fn read_digits(f: &[u8]) -> Number
-    ensures { λ r. ⌜ r ≡ numberOf (Option·map pos (digitsAfter 0 (now (f .entry)))) ⌝ }
+    ensures { λ r. ⌜ r ≡ cappedNumber (Option·map pos (digitsAfter 0 (now (f .entry)))) ⌝ }
 {
     let mut n: u64 = 0;
     let mut i = 0;
@@ -131,7 +131,7 @@ fn read_digits(f: &[u8]) -> Number
 
 // A number without a minus: one digit or more, no leading zero unless it is 0 itself.
 fn read_natural(f: &[u8]) -> Number
-    ensures { λ r. ⌜ r ≡ numberOf (Option·map pos (natural (now (f .entry)))) ⌝ }
+    ensures { λ r. ⌜ r ≡ cappedNumber (Option·map pos (natural (now (f .entry)))) ⌝ }
 {
     if f.len() == 0 {
         return Number::Bad;
@@ -147,7 +147,7 @@ fn read_natural(f: &[u8]) -> Number
 
 // A field that is to be a number; `minus` says whether a minus may stand first. -0 is badly written.
 pub fn read_number(f: &[u8], minus: bool) -> Number
-    ensures { λ r. ⌜ r ≡ numberOf (numeral minus (now (f .entry))) ⌝ }
+    ensures { λ r. ⌜ r ≡ cappedNumber (numeral minus (now (f .entry))) ⌝ }
 {
     if f.len() == 0 {
         return Number::Bad;

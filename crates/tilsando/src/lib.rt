@@ -14,7 +14,7 @@ ghost use Rattle.tape_maker.specs.Sample.{SampleIs};
 ghost use Rattle.interpreter.specs.declared.RunAnswer.{RunAnswer};
 ghost use Rattle.sample.specs.declared.SampleAnswer.{SampleAnswer};
 ghost use Rattle.tape_maker.specs.declared.ReportAnswer.{ReportAnswer};
-ghost use Rattle.tilsando.specs.Exports.{laid, RunTold, ReportTold, SampleTold, wantsP, bounds};
+ghost use Rattle.tilsando.specs.Exports.{laid, RunTold, ReportTold, SampleTold, wantsP, spanValues};
 use tape_maker::Cell;
 
 // Runs a flow on the tapes that stand one after another in a row of records: what `tape_maker::run` answers, told in rows.
@@ -85,7 +85,7 @@ pub extern "C" fn tilsando_tape(
     answer: &mut [u64],
 ) -> u32
     ensures { λ r. ⌜ (r ≡ 0) × (now (answer .exit)
-        ≡ laid (bounds (spanOf (now (lengths .entry)) tape (length (now (row .entry))))) (now (answer .entry))) ⌝ }
+        ≡ laid (spanValues (spanOf (now (lengths .entry)) tape (length (now (row .entry))))) (now (answer .entry))) ⌝ }
 {
     let span = tapes::span_of(row, lengths, tape);
     let numbers = [span.start as u64, span.count as u64];

@@ -4,9 +4,9 @@ use Prim.Native.Nat.{_+_, _-_, _≤_}
 use native.Mathlib.Omega.{arith}
 use lib.ListN.{length}
 use borrow.Author.Needs.{needs}
-use Rattle.cells.specs.Columns.{marksField, column, rowsOf}
+use Rattle.cells.specs.Columns.{marksField, column, columnsOf}
 use Rattle.cells.specs.Entries.{entriesOf}
-use Rattle.cells.specs.Marks.{Fresh}
+use Rattle.cells.specs.Marks.{Unmarked}
 use Rattle.cells.proofs.Marking.{fresh-none, fresh-then}
 use Rattle.growth.specs.Growth.{Kept}
 use Rattle.growth.specs.Fan.{Member, MembersIs}
@@ -19,8 +19,8 @@ use Rattle.growth.proofs.members.Tie as tie
 
 abbrev Inv-loop : tie.InvT-loop
 Inv-loop cells₀ count size d k w v first last n₀ y₀ cells n y =
-    Kept (Member w v first) (Tried w v first y) (entriesOf (rowsOf cells₀)) (entriesOf (rowsOf cells)) (rowsOf cells .heads) (rowsOf cells .nexts)
-    count size d k n × (7 ≤ y) × Fresh (column marksField cells₀) (column marksField cells) count n
+    Kept (Member w v first) (Tried w v first y) (entriesOf (columnsOf cells₀)) (entriesOf (columnsOf cells)) (columnsOf cells .heads) (columnsOf cells .nexts)
+    count size d k n × (7 ≤ y) × Unmarked (column marksField cells₀) (column marksField cells) count n
     × (length cells ≡ length cells₀)
 
 abbrev μ-loop : tie.MeasureT-loop

@@ -18,13 +18,13 @@ use Rattle.flow.specs.declared.Kind.{Kind}
 use Rattle.flow.specs.declared.Kind.the-variants.{Put, Copy, Set, Less, Over, Under, Nop}
 use Rattle.interpreter.proofs.HeldLaws.{kinded, fits-kind, stepped}
 use Rattle.interpreter.proofs.step.Statement.{statement}
-use Rattle.interpreter.specs.Held.{AllFit, RowFits, eitherOn, stops}
+use Rattle.interpreter.specs.Held.{FieldsFit, RowFits, eitherOn, stops}
 use Rattle.interpreter.proofs.step.Tie as tie
 
 -- ---- by kind: what the row names fits
 module _ (a : tie.Start) where
   abbrev Fit : Kind → Type 0
-  Fit k = AllFit maxTapes maxVariables (fields (instructionOf (kinded (a .args .x) k)))
+  Fit k = FieldsFit maxTapes maxVariables (fields (instructionOf (kinded (a .args .x) k)))
 
   fit : {k : Kind} → a .args .x .kind ≡ k → Fit k
   unfolding RowFits

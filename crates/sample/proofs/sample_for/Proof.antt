@@ -3,7 +3,7 @@ use borrow.Author.Needs.{needs}
 use denote.Ref.{now}
 use mir.Facts.{toZ-ofZ}
 use native.Mathlib.Omega.{arith}
-use Rattle.cells.specs.Columns.{placeField, rowsOf}
+use Rattle.cells.specs.Columns.{placeField, columnsOf}
 use Rattle.cells.specs.Entries.{Entries, entriesOf}
 use Rattle.cells.proofs.Fields.{length-word-column}
 use Rattle.sample.proofs.Picking.{nearest-is, tabled-at, tabled-wide, tabled-first, tabled-last, nothing-picked}
@@ -27,7 +27,7 @@ nearest-requires c κs =
 
 -- the table in the cells
 abbrev table : tie.Start → Entries
-table b = entriesOf (rowsOf (now (b .args .cells)))
+table b = entriesOf (columnsOf (now (b .args .cells)))
 
 sample-at-requires : tie.Need-sample-at-requires
 sample-at-requires c κs =

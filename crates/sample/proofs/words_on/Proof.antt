@@ -1,7 +1,7 @@
 -- `words_on` meets its contract.
 use mathlib.Core.Path.{ap, _∙_}
 use denote.Ref.{now}
-use Rattle.cells.specs.Columns.{rowsOf}
+use Rattle.cells.specs.Columns.{columnsOf}
 use Rattle.cells.specs.Entries.{entriesOf}
 use Rattle.table.specs.Table.{wordsAt}
 use borrow.Author.Needs.{needs}
@@ -12,7 +12,7 @@ returns : tie.Need-returns
 returns c =
     let w = c .before in
     let g = w .before in
-    c .words-at .ensures ∙ ap (wordsAt (entriesOf (rowsOf (now (g .before .args .cells))))) (w .wide .ensures ∙ g .get .ensures)
+    c .words-at .ensures ∙ ap (wordsAt (entriesOf (columnsOf (now (g .before .args .cells))))) (w .wide .ensures ∙ g .get .ensures)
 
 pub words-on-spec : {M : Type 1} → statement M
 words-on-spec = tie.close (tie.spec (λ c κs. search needs) (λ c κs. search needs) (λ c κs. search needs) returns)

@@ -5,7 +5,7 @@ use denote.Ref.{now}
 use lib.ListN.{length}
 use mir.Facts.{toZ-ofZ}
 use Rattle.table.specs.Passes.{Stands}
-use Rattle.sample.specs.Sampling.{Course, courseIn, Leads, Roomy, Following}
+use Rattle.sample.specs.Sampling.{Course, courseIn, CourseLeads, Roomy, Following}
 use Rattle.sample.proofs.Numbers as numbers
 use Rattle.sample.proofs.Counts.{op-by-place}
 use Rattle.sample.proofs.Ending.{end-roomy, end-asks, end-written}
@@ -39,7 +39,7 @@ write-steps-requires c κs =
     let flow = b .pre .0 .0 in
     let q = b .pre .0 .1 in
     let roomy = end-roomy q (a .exit) is (c .before .sizes-of .ensures) (length (now (a .row))) (b .pre .1) in (
-      (flow, subst (λ (k : Course). Leads k flow) (sym same) q),
+      (flow, subst (λ (k : Course). CourseLeads k flow) (sym same) q),
       subst (λ (k : Course). Roomy k (c .before .sizes-of .result) (length (now (a .row)))) (sym same) roomy,
     )
 
@@ -56,7 +56,7 @@ last-read-requires c κs =
     let sizes = c .before .before .before .before .sizes-of in
     let w = c .before .before .write-steps in
     let f = subst (λ (k : Course). Following k flow (sizes .result) (now (a .row)) (a .steps) (w .result) (w .last .1 .1 .1 .1 .1 .1 .1 .0)) same
-    (w .ensures flow (subst (λ (k : Course). Leads k flow) (sym same) q)) in
+    (w .ensures flow (subst (λ (k : Course). CourseLeads k flow) (sym same) q)) in
     rw (toZ-ofZ (b .fits .lo), toZ-ofZ (b .fits .hi)) (end-asks q (a .exit) is (sizes .ensures) (b .pre .0 .2) f (b .pre .1))
 
 returns : tie.Need-returns
@@ -72,7 +72,7 @@ returns c =
     let e = rw (toZ-ofZ (b .fits .lo), toZ-ofZ (b .fits .hi)) at (c .before .last-read .ensures) in
     λ flow q d.
     let f = subst (λ (k : Course). Following k flow (sizes .result) (now (a .row)) (a .steps) (w .result) (w .last .1 .1 .1 .1 .1 .1 .1 .0)) same
-    (w .ensures flow (subst (λ (k : Course). Leads k flow) (sym same) q)) in
+    (w .ensures flow (subst (λ (k : Course). CourseLeads k flow) (sym same) q)) in
     end-written q (a .exit) is (sizes .ensures) d f (b .pre .1) e
 
 pub write-sample-spec : {M : Type 1} → statement M

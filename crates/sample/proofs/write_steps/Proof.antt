@@ -13,7 +13,7 @@ use Rattle.model.specs.Language.{Flow}
 use Rattle.configuration.specs.declared.Words.{Words}
 use Rattle.table.specs.Passes.{Stands}
 use Rattle.tapes.specs.Reading.{firstWalk}
-use Rattle.sample.specs.Sampling.{Course, courseIn, Leads, Roomy, Following}
+use Rattle.sample.specs.Sampling.{Course, courseIn, CourseLeads, Roomy, Following}
 use Rattle.sample.proofs.Numbers as numbers
 use Rattle.sample.proofs.Counts.{op-by-words}
 use Rattle.sample.proofs.Stepping.{following-first, loop-asks, loop-follows}
@@ -23,7 +23,7 @@ use Rattle.sample.proofs.write_steps.Tie as tie
 abbrev Inv-loop : tie.InvT-loop
 Inv-loop cells steps w lo hi row₀ ops walk₀ t₀ row walk t =
     (t ≤ steps) × (length row ≡ length row₀)
-    × ((flow : Flow) (sizes : List ℕ) → Leads (courseIn cells steps ops w (toZ w32 lo) (toZ w32 hi)) flow
+    × ((flow : Flow) (sizes : List ℕ) → CourseLeads (courseIn cells steps ops w (toZ w32 lo) (toZ w32 hi)) flow
     → Roomy (courseIn cells steps ops w (toZ w32 lo) (toZ w32 hi)) sizes (length row₀) → walk₀ ≡ firstWalk sizes
     → Following (courseIn cells steps ops w (toZ w32 lo) (toZ w32 hi)) flow sizes row₀ t walk row)
 
@@ -82,7 +82,7 @@ step-requires c κs =
     let hi = numbers.back (a .hi) in
     let k = courseIn (now (a .cells)) (a .steps) (a .t3) (a .w) lo hi in
     let flow = b .pre .0 .0 in
-    let q : Leads k flow = rw (toZ-ofZ (b .fits .lo), toZ-ofZ (b .fits .hi)) (b .pre .0 .1) in
+    let q : CourseLeads k flow = rw (toZ-ofZ (b .fits .lo), toZ-ofZ (b .fits .hi)) (b .pre .0 .1) in
     let roomy : Roomy k (a .sizes) (length (now (a .row))) = rw (toZ-ofZ (b .fits .lo), toZ-ofZ (b .fits .hi)) (b .pre .1) in
     let lt : l .t < a .steps = c .before .before .before .before .before .loop-test .taken in
     let e = op-by-words q (l .t) _ (c .before .before .before .before .words-on .ensures) (c .before .before .before .index .ensures .0) in
@@ -104,7 +104,7 @@ loop-again c =
     let hi = numbers.back (a .hi) in
     let k = courseIn (now (a .cells)) (a .steps) (a .t3) (a .w) lo hi in
     let flow₀ = b .pre .0 .0 in
-    let q₀ : Leads k flow₀ = rw (toZ-ofZ (b .fits .lo), toZ-ofZ (b .fits .hi)) (b .pre .0 .1) in
+    let q₀ : CourseLeads k flow₀ = rw (toZ-ofZ (b .fits .lo), toZ-ofZ (b .fits .hi)) (b .pre .0 .1) in
     let roomy : Roomy k (a .sizes) (length (now (a .row))) = rw (toZ-ofZ (b .fits .lo), toZ-ofZ (b .fits .hi)) (b .pre .1) in
     let lt : l .t < a .steps = c .before .before .before .before .before .before .before .loop-test .taken in
     let e = op-by-words q₀ (l .t) _ (c .before .before .before .before .before .before .words-on .ensures) (c .before .before .before .before .before .index .ensures .0) in
@@ -130,7 +130,7 @@ returns c =
     = λ i. along (toZ-ofZ (b .fits .lo) i) (toZ-ofZ (b .fits .hi) i) in
     λ flow q. subst (λ (k : Course). Following k flow (a .sizes) (now (a .row)) (a .steps) (l .walk) (l .row)) same
     (subst (λ (n : ℕ). Following (along (numbers.back (a .lo)) (numbers.back (a .hi))) flow (a .sizes) (now (a .row)) n (l .walk) (l .row)) done
-    (l .inv .2 flow (a .sizes) (subst (λ (k : Course). Leads k flow) (sym same) q)
+    (l .inv .2 flow (a .sizes) (subst (λ (k : Course). CourseLeads k flow) (sym same) q)
     (subst (λ (k : Course). Roomy k (a .sizes) (length (now (a .row)))) (sym same) (b .pre .1)) (c .before .before .first-walk .ensures)))
 
 pub write-steps-spec : {M : Type 1} → statement M

@@ -5,13 +5,13 @@ use native.Mathlib.Omega.{arith}
 use denote.Ref.{now}
 use borrow.Author.Needs.{needs}
 use Rattle.configuration.proofs.next.Reads as next-reads
-use Rattle.cells.specs.Columns.{rowsOf}
+use Rattle.cells.specs.Columns.{columnsOf}
 use Rattle.cells.specs.Entries.{entriesOf, distanceOf}
 use Rattle.cells.proofs.Entering.{room}
 use Rattle.cells.proofs.get.Reads as get-reads
 use Rattle.table.specs.Table.{wordsAt}
 use Rattle.table.proofs.words_at.Reads as words-at-reads
-use Rattle.growth.specs.Fan.{Fine}
+use Rattle.growth.specs.Fan.{FanFits}
 use Rattle.growth.proofs.Fanning.{fan-answer, next-ready, next-answer}
 use Rattle.growth.proofs.fan.Reads as fan-reads
 use Rattle.growth.proofs.visit.Reads as visit-reads
@@ -42,14 +42,14 @@ claims = (
 abbrev start : lts.After-get claims reads.Pre reads.Post → lts.Start claims reads.Pre reads.Post
 start c = c .before .before .before .before
 
-same : (c : lts.After-get claims reads.Pre reads.Post) → c .before .before .words-at .result ≡ wordsAt (entriesOf (rowsOf (now (start c .args .cells)))) (start c .args .k)
+same : (c : lts.After-get claims reads.Pre reads.Post) → c .before .before .words-at .result ≡ wordsAt (entriesOf (columnsOf (now (start c .args .cells)))) (start c .args .k)
 same c = c .before .before .words-at .ensures
 
-far : (c : lts.After-get claims reads.Pre reads.Post) → c .get .result + 1 ≡ distanceOf (entriesOf (rowsOf (now (start c .args .cells)))) (start c .args .k) + 1
+far : (c : lts.After-get claims reads.Pre reads.Post) → c .get .result + 1 ≡ distanceOf (entriesOf (columnsOf (now (start c .args .cells)))) (start c .args .k) + 1
 far c = ap (λ (d : ℕ). d + 1) (c .get .ensures)
 
-fine : (c : lts.After-get claims reads.Pre reads.Post) → Fine (start c .args .w) (start c .args .op) (c .before .before .words-at .result)
-fine c = subst (Fine (start c .args .w) (start c .args .op)) (sym (same c)) (start c .pre .1 .1 .0)
+fine : (c : lts.After-get claims reads.Pre reads.Post) → FanFits (start c .args .w) (start c .args .op) (c .before .before .words-at .result)
+fine c = subst (FanFits (start c .args .w) (start c .args .op)) (sym (same c)) (start c .pre .1 .1 .0)
 
 -- ---- the needs
 words-at-requires : tie.Need-words-at-requires

@@ -7,7 +7,7 @@ use native.Mathlib.Omega.{arith}
 use lib.ListN.{length}
 use borrow.Author.Needs.{needs}
 use Rattle.configuration.specs.Place.{atOf}
-use Rattle.cells.specs.Columns.{marksField, rowsOf}
+use Rattle.cells.specs.Columns.{marksField, columnsOf}
 use Rattle.cells.proofs.Fields.{column-long}
 use Rattle.cells.proofs.Entering.{room}
 use Rattle.cells.proofs.word.Reads as word-reads
@@ -24,7 +24,7 @@ use Rattle.search.proofs.walk.Tie as tie
 
 abbrev Inv-loop : tie.InvT-loop
 Inv-loop cells₀ size w ops n₀ k₀ cells n k =
-    ((s : Subject w ops) → Exploring (s .lo) w (s .flow) (rowsOf cells₀) 1 size 0 → Exploring (s .lo) w (s .flow) (rowsOf cells) n size k)
+    ((s : Subject w ops) → Exploring (s .lo) w (s .flow) (columnsOf cells₀) 1 size 0 → Exploring (s .lo) w (s .flow) (columnsOf cells) n size k)
     × (length cells ≡ length cells₀)
 
 abbrev μ-loop : tie.MeasureT-loop

@@ -6,7 +6,7 @@ use native.Mathlib.Omega.{arith}
 use denote.Ref.{now}
 use lib.ListN.{length, length-set}
 use Rattle.text.specs.Divided.{kept}
-use Rattle.text.proofs.Dividing.{Passed, none-passed, Stored, room, no-room, one-passed, all-passed}
+use Rattle.text.proofs.Dividing.{Passed, none-passed, EndStored, room, no-room, one-passed, all-passed}
 use Rattle.text.proofs.divide.Statement.{statement}
 use Rattle.text.proofs.divide.Tie as tie
 
@@ -22,7 +22,7 @@ loop-holds c = (refl, none-passed _ _ _ (omega arith))
 -- the ends behind the branch
 stored : (c : tie.Joined1 Inv-loop μ-loop) →
     let l = c .before .before .loop in
-    (length (c .if1 .ends) ≡ kept) × Stored (l .ends) (c .if1 .ends) (l .count) (c .before .end-of .result)
+    (length (c .if1 .ends) ≡ kept) × EndStored (l .ends) (c .if1 .ends) (l .count) (c .before .end-of .result)
 stored c =
     let l = c .before .before .loop in
     let comma = c .before .end-of .result in

@@ -8,7 +8,7 @@ use mir.Syntax.{w64}
 use mir.Facts.{toZ-pos}
 use Rattle.text.specs.declared.Number.the-variants.{Value}
 use Rattle.text.specs.Number.{digitsAfter}
-use Rattle.text.specs.Capped.{cap, numberOf}
+use Rattle.text.specs.Capped.{cap, cappedNumber}
 use Rattle.text.proofs.Digits.{answer, capped-so-far, digits-end, digit-at, low-at, high-at}
 use Rattle.text.proofs.read_digits.Statement.{statement}
 use Rattle.text.proofs.read_digits.Tie as tie
@@ -23,14 +23,14 @@ loop-holds : tie.Need-loop-holds Inv-loop μ-loop
 loop-holds c = (omega arith, omega arith, refl)
 
 returns : tie.Need-returns Inv-loop μ-loop
-unfolding numberOf
+unfolding cappedNumber
 returns c =
     let f = now (c .before .before .before .before .before .args .f) in
     let l = c .before .before .before .loop in
     sym (ap answer (low-at f (l .i) (l .n) (omega arith) (c .if1 .taken))) ∙ l .inv .2
 
 returns-2 : tie.Need-returns-2 Inv-loop μ-loop
-unfolding numberOf
+unfolding cappedNumber
 returns-2 c =
     let f = now (c .before .before .before .before .before .before .args .f) in
     let l = c .before .before .before .before .loop in

@@ -3,13 +3,13 @@ use mathlib.Core.Path.{sym, ap, _∙_}
 use native.Mathlib.Omega.{arith}
 use borrow.Author.Needs.{needs}
 use denote.Ref.{now}
-use Rattle.text.specs.Capped.{numberOf}
+use Rattle.text.specs.Capped.{cappedNumber}
 use Rattle.text.proofs.Digits.{answer, natural-empty, natural-one, natural-zero, natural-more}
 use Rattle.text.proofs.read_natural.Statement.{statement}
 use Rattle.text.proofs.read_natural.Tie as tie
 
 returns : tie.Need-returns
-unfolding numberOf
+unfolding cappedNumber
 returns c = sym (ap answer (natural-empty (now (c .before .before .args .f)) (c .if1 .taken)))
 
 returns-2 : tie.Need-returns-2
@@ -18,7 +18,7 @@ returns-2 c =
     c .read-digits .ensures ∙ sym (ap answer (natural-one f (c .before .if2 .taken)))
 
 returns-3 : tie.Need-returns-3
-unfolding numberOf
+unfolding cappedNumber
 returns-3 c =
     let f = now (c .before .before .before .before .before .args .f) in
     sym (ap answer (natural-zero f (omega arith) (c .if3 .taken)))

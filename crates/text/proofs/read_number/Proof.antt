@@ -8,40 +8,40 @@ use borrow.Author.Tests.{not-true, not-false}
 use denote.Ref.{now}
 use Rattle.text.specs.declared.Number.the-variants.{Value}
 use Rattle.text.specs.Number.{natural, negative, numeral}
-use Rattle.text.specs.Capped.{numberOf}
-use Rattle.text.proofs.Digits.{answer, behind, numeral-empty, numeral-plain, numeral-barred, numeral-minus}
+use Rattle.text.specs.Capped.{cappedNumber}
+use Rattle.text.proofs.Digits.{answer, digitsBehind, numeral-empty, numeral-plain, numeral-barred, numeral-minus}
 use Rattle.text.proofs.Digits.{minus-bad, minus-fits, minus-zero, minus-value}
 use Rattle.text.proofs.read_number.Statement.{statement}
 use Rattle.text.proofs.read_number.Tie as tie
 
 returns : tie.Need-returns
-unfolding numberOf
+unfolding cappedNumber
 returns c =
     let a = c .before .before .args in
-    sym (ap numberOf (numeral-empty (a .minus) (now (a .f)) (c .if1 .taken)))
+    sym (ap cappedNumber (numeral-empty (a .minus) (now (a .f)) (c .if1 .taken)))
 
 returns-2 : tie.Need-returns-2
 returns-2 c =
     let a = c .before .before .before .before .before .args in
-    c .read-natural .ensures ∙ sym (ap numberOf (numeral-plain (a .minus) (now (a .f)) (omega arith) (c .before .if2 .taken)))
+    c .read-natural .ensures ∙ sym (ap cappedNumber (numeral-plain (a .minus) (now (a .f)) (omega arith) (c .before .if2 .taken)))
 
 returns-3 : tie.Need-returns-3
-unfolding numberOf
+unfolding cappedNumber
 returns-3 c =
     let a = c .before .before .before .before .before .args in
-    sym (ap numberOf (numeral-barred (a .minus) (now (a .f)) (omega arith) (c .before .if2 .left) (not-true _ (c .if3 .taken))))
+    sym (ap cappedNumber (numeral-barred (a .minus) (now (a .f)) (omega arith) (c .before .if2 .left) (not-true _ (c .if3 .taken))))
 
 -- what stands behind the minus, read as a size; the field is that size below 0
 abbrev size : tie.After-read-natural2 → Option ℕ
-size c = natural (behind (now (c .before .before .before .before .before .before .before .args .f)))
+size c = natural (digitsBehind (now (c .before .before .before .before .before .before .before .args .f)))
 
 below : (c : tie.After-read-natural2) →
     let a = c .before .before .before .before .before .before .before .args in
-    numberOf (negative (size c)) ≡ numberOf (numeral (a .minus) (now (a .f)))
+    cappedNumber (negative (size c)) ≡ cappedNumber (numeral (a .minus) (now (a .f)))
 below c =
     let a = c .before .before .before .before .before .before .before .args in
     let e = c .before .before .before .if2 .left in
-    sym (ap numberOf (numeral-minus (a .minus) (now (a .f)) (omega arith) e (not-false _ (c .before .before .if3 .left))))
+    sym (ap cappedNumber (numeral-minus (a .minus) (now (a .f)) (omega arith) e (not-false _ (c .before .before .if3 .left))))
 
 -- the size that the code holds
 held : (c : tie.After-size) → answer (size (c .before .before)) ≡ Value (c .size .given .0 .0)

@@ -7,7 +7,7 @@ use native.Mathlib.Omega.{arith}
 use borrow.Author.Needs.{needs}
 use denote.Ref.{now}
 use lib.ListN.{length, getD}
-use Rattle.text.specs.Split.{fields}
+use Rattle.text.specs.Split.{split}
 use Rattle.flow.specs.Words.{kindOf, sorts}
 use Rattle.flow.specs.Inner.{kindIn}
 use Rattle.flow.specs.Line.{smallIn}
@@ -24,7 +24,7 @@ module _ (c : tie.Else1) where
 
   -- the fields of the line
   abbrev fs : List (List ℕ)
-  fs = fields (now (c .before .before .args .line))
+  fs = split (now (c .before .before .args .line))
 
   few : count < 64
   few = omega arith
@@ -55,7 +55,7 @@ add-if2 : tie.Need-add-if2
 add-if2 c = omega (arith, width-bound (kind (c .before)), c .width .ensures)
 
 returns : tie.Need-returns
-returns c = laws.begin-many (c .before .before .args .count) (fields (now (c .before .before .args .line))) (c .if1 .taken)
+returns c = laws.begin-many (c .before .before .args .count) (split (now (c .before .before .args .line))) (c .if1 .taken)
 
 returns-2 : tie.Need-returns-2
 returns-2 c =

@@ -5,7 +5,7 @@ use mathlib.Core.List.{List}
 use Prim.Native.Nat.{ℕ}
 use borrow.Author.Needs.{needs}
 use Rattle.text.specs.Number.{numeral}
-use Rattle.text.specs.Capped.{numberOf}
+use Rattle.text.specs.Capped.{cappedNumber}
 use Rattle.flow.specs.Words.{mayMinus}
 use Rattle.flow.proofs.line.number_at.Statement.{statement}
 use Rattle.flow.proofs.line.number_at.Tie as tie
@@ -13,7 +13,7 @@ use Rattle.flow.proofs.line.number_at.Tie as tie
 returns : tie.Need-returns
 returns c =
     let minus = c .before .before .before .may-minus .ensures ∙ ap mayMinus (c .before .before .before .before .sort-at .ensures) in
-    c .read-number .ensures ∙ ap₂ (λ (m : Bool) (f : List ℕ). numberOf (numeral m f)) minus (c .before .field .ensures)
+    c .read-number .ensures ∙ ap₂ (λ (m : Bool) (f : List ℕ). cappedNumber (numeral m f)) minus (c .before .field .ensures)
 
 pub number-at-spec : {M : Type 1} → statement M
 number-at-spec =

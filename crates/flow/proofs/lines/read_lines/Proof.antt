@@ -12,11 +12,11 @@ use mir.Syntax.{w32, w64}
 use mir.Val.{SFits, toZ, ofZ}
 use mir.Facts.{toZ-ofZ}
 use Rattle.model.specs.Language.{stop}
-use Rattle.text.specs.Split.{lines, fields}
+use Rattle.text.specs.Split.{lines, split}
 use Rattle.flow.specs.Words.{sorts}
 use Rattle.flow.specs.Read.{Checked, ok, fault, numerals, readLines}
 use Rattle.flow.specs.Code.{row as rowBy, rowOf}
-use Rattle.flow.specs.Inner.{bounded, kept, answered, linesIn}
+use Rattle.flow.specs.Inner.{bounded, keptRows, answered, linesIn}
 use Rattle.flow.specs.Line.{begunIn, beginLine, endedIn}
 use Rattle.flow.specs.declared.Head.{Head}
 use Rattle.flow.specs.declared.Instruction.{Instruction as Row}
@@ -32,7 +32,7 @@ use Rattle.flow.proofs.lines.read_lines.Tie as tie
 abbrev Inv-loop : tie.InvT-loop
 Inv-loop text from head rows count at end line cut start kind numbers₀ k₀ k-end numbers k =
     (k ≤ k-end) × (length numbers ≡ 4) × (drop k numbers ≡ replicate (4 - k) (pos 0))
-    × (laws.behind (sorts kind) (fields line) numbers k ≡ laws.keptAll (numerals (sorts kind) (drop 2 (fields line))))
+    × (laws.behind (sorts kind) (split line) numbers k ≡ laws.keptAll (numerals (sorts kind) (drop 2 (split line))))
 
 abbrev μ-loop : tie.MeasureT-loop
 μ-loop text from head rows count at end line cut start kind numbers₀ k₀ k-end numbers k = k-end - k
@@ -40,7 +40,7 @@ abbrev μ-loop : tie.MeasureT-loop
 abbrev Inv-lines : tie.InvT-lines
 Inv-lines text from head rows₀ count₀ at₀ rows count at =
     (at ≤ length text + 1) × (count ≤ 64) × (length rows ≡ 64) × (drop count rows ≡ replicate (64 - count) (rowOf stop))
-    × (laws.prepended (take count rows) (kept (readLines head (count + 1) (lines (drop at text)))) ≡ kept (readLines head 1 (lines (drop from text))))
+    × (laws.prepended (take count rows) (keptRows (readLines head (count + 1) (lines (drop at text)))) ≡ keptRows (readLines head 1 (lines (drop from text))))
 
 abbrev μ-lines : tie.MeasureT-lines
 μ-lines text from head rows₀ count₀ at₀ rows count at = length text + 1 - at
@@ -66,11 +66,11 @@ module _ (c : tie.After-line Inv-loop μ-loop Inv-lines μ-lines) where
   end = c .before .end-of .result
 
   abbrev answer : Checked (List Row)
-  answer = kept (readLines head 1 (lines (drop (c .before .before .before .before .before .before .args .from) text)))
+  answer = keptRows (readLines head 1 (lines (drop (c .before .before .before .before .before .before .args .from) text)))
 
   -- the fields of the line
   abbrev fs : List (List ℕ)
-  fs = fields (take (end - at) (drop at text))
+  fs = split (take (end - at) (drop at text))
 
   -- the rows past the count
   abbrev Stops : Type 0
@@ -85,11 +85,11 @@ module _ (c : tie.After-line Inv-loop μ-loop Inv-lines μ-lines) where
       )
 
   more : (row : Row) (stored : List Row) → stored ≡ set rows count row → count < 64 → laws.stepped head count fs ≡ ok row →
-      laws.prepended (take (count + 1) stored) (kept (readLines head (count + 1 + 1) (lines (drop (end + 1) text)))) ≡ answer
+      laws.prepended (take (count + 1) stored) (keptRows (readLines head (count + 1 + 1) (lines (drop (end + 1) text)))) ≡ answer
   more row stored is few e =
       let inv = c .before .before .before .lines .inv in
       let l : count < length rows = omega (arith, few, inv .2) in
-      ap (λ (rs : List Row). laws.prepended (take (count + 1) rs) (kept (readLines head (count + 1 + 1) (lines (drop (end + 1) text))))) is
+      ap (λ (rs : List Row). laws.prepended (take (count + 1) rs) (keptRows (readLines head (count + 1 + 1) (lines (drop (end + 1) text))))) is
       ∙ laws.lines-more text at head rows count (inv .4) (c .before .before .before .before .before .before .pre .1) (c .before .before .if1 .left) end
       (c .before .end-of .ensures .0) row l e
 

@@ -3,14 +3,14 @@ use mathlib.Core.Path.{refl}
 use borrow.Author.Needs.{needs}
 use denote.Ref.{now}
 use Rattle.text.specs.Split.{sameWord}
-use Rattle.flow.specs.Words.{table, among}
+use Rattle.flow.specs.Words.{table, firstNamed}
 use Rattle.flow.specs.declared.Kind.the-variants.{Read, Put, Copy, Set, Less, Over, Under, Nop, Stop}
 use Rattle.flow.proofs.RowLaws.{word-more}
 use Rattle.flow.proofs.words.kind_of.Statement.{statement}
 use Rattle.flow.proofs.words.kind_of.Tie as tie
 
 returns : tie.Need-returns
-unfolding among sameWord
+unfolding firstNamed sameWord
 returns c =
     let w = now (c .before .before .before .before .before .before .before .before .before .before .before .before .before .before .before .before .before .before .before .args .w) in
     word-more Read (sameWord w (table Read .word)) (c .found9 .ensures)

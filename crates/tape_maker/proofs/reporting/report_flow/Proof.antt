@@ -3,7 +3,7 @@ use borrow.Author.Needs.{needs}
 use Rattle.model.specs.Language.{C1}
 use Rattle.flow.specs.Code.{flowOf}
 use Rattle.cells.specs.Cells.{cellsOf}
-use Rattle.cells.specs.Columns.{rowsOf}
+use Rattle.cells.specs.Columns.{columnsOf}
 use denote.Ref.{now}
 use Rattle.search.specs.Search.{Finished}
 use Rattle.tape_maker.proofs.ReportLaws.{plan-subject, plan-wide, finished-walkable, search-done, search-full, done-searched, full-searched}
@@ -17,7 +17,7 @@ search-requires c κs = plan-subject (c .before .before .before .plan-of .ensure
 finished : (c : tie.After-found) → let s = c .before .before .before in
     let plan = s .before .before .before .before in
     let flow = flowOf (plan .before .args .flow) in
-    Finished (C1 flow) (plan .plan-of .result .w) flow (rowsOf (s .search .last .0)) (cellsOf (now (plan .before .args .cells))) (c .found .given .0 .0)
+    Finished (C1 flow) (plan .plan-of .result .w) flow (columnsOf (s .search .last .0)) (cellsOf (now (plan .before .args .cells))) (c .found .given .0 .0)
 finished c =
     let s = c .before .before .before in
     search-done (s .before .before .before .before .plan-of .ensures) _ (s .search .ensures) (c .found .given .1)

@@ -11,7 +11,7 @@ use Rattle.model.specs.Language.{C1}
 use Rattle.model.specs.Machine.{exitIf}
 use Rattle.flow.specs.Code.{flowOf}
 use Rattle.cells.specs.Cells.{cellsOf}
-use Rattle.cells.specs.Columns.{rowsOf}
+use Rattle.cells.specs.Columns.{columnsOf}
 use Rattle.cells.specs.Entries.{entriesOf}
 use Rattle.search.specs.Search.{Finished}
 use Rattle.sample.specs.Sampling.{Tabled}
@@ -50,7 +50,7 @@ returns-2 c =
 finished : (c : tie.After-found) → let s = c .before .before .before in
     let plan = s .before .before .before .before in
     let a = plan .before .before .before .before .args in
-    Finished (C1 (flowOf (a .flow))) (plan .plan-of .result .w) (flowOf (a .flow)) (rowsOf (s .search .last .0)) (cellsOf (now (a .cells))) (c .found .given .0 .0)
+    Finished (C1 (flowOf (a .flow))) (plan .plan-of .result .w) (flowOf (a .flow)) (columnsOf (s .search .last .0)) (cellsOf (now (a .cells))) (c .found .given .0 .0)
 finished c =
     let s = c .before .before .before in
     search-done (s .before .before .before .before .plan-of .ensures) _ (s .search .ensures) (c .found .given .1)
@@ -61,7 +61,7 @@ tabled : (c : tie.After-struct-told2) → let found = c .before .before .before 
     let plan = s .before .before .before .before in
     let p = plan .plan-of .result in
     let a = plan .before .before .before .before .args in
-    Tabled (flowOf (a .flow)) (entriesOf (rowsOf (s .search .last .0))) (found .found .given .0 .0) (length (s .search .last .0)) (p .ops) (p .w)
+    Tabled (flowOf (a .flow)) (entriesOf (columnsOf (s .search .last .0))) (found .found .given .0 .0) (length (s .search .last .0)) (p .ops) (p .w)
     (toZ w32 (ofZ w32 (p .lo))) (toZ w32 (ofZ w32 (p .hi))) (a .instruction)
 tabled c =
     let found = c .before .before .before .before .before .before in
