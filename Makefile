@@ -49,6 +49,7 @@ bench: lib
 test:
 	@tools/listed
 	@tools/limits
+	@tools/names
 	@rt fmt --check
 	@python3 tests/readings.py
 	@python3 tests/reports.py

@@ -6,8 +6,8 @@ use native.Mathlib.Omega.{arith}
 use mir.Syntax as syntax
 use mir.Val.{Fits}
 use Rattle.cells.specs.Cells.{mostCells}
-use Rattle.cells.specs.Columns.{half}
-use Rattle.cells.specs.Index.{Node, foldOf, bucketOf}
+use Rattle.cells.specs.inner.Columns.{half}
+use Rattle.cells.specs.inner.Index.{Node, foldOf, bucketOf}
 
 fold-below : (x : ℕ) → foldOf x < half
 unfolding foldOf

@@ -6,9 +6,9 @@ use native.Mathlib.Omega.{arith}
 use lib.ListN.{length, getD, set, length-set}
 use lib.Seq.{getD-set-same, getD-set-other}
 use Rattle.cells.specs.Cells.{cellsOf}
-use Rattle.cells.specs.Columns.{placeField, patternField, distanceField, parentField, headField, nextField, marksField, bucketField, column, wordColumn, Rows, columnsOf, Only, Stored, Entered}
-use Rattle.cells.specs.Index.{Node, node, bucketOf}
-use Rattle.cells.specs.Entries.{Entries, entriesOf, nodeOf, distanceOf, parentOf, Filled, FilledIn, LatestIn, Added, BegunIn}
+use Rattle.cells.specs.inner.Columns.{placeField, patternField, distanceField, parentField, headField, nextField, marksField, bucketField, column, wordColumn, Rows, columnsOf, Only, Stored, Entered}
+use Rattle.cells.specs.inner.Index.{Node, node, bucketOf}
+use Rattle.cells.specs.inner.Entries.{Entries, entriesOf, nodeOf, distanceOf, parentOf, Filled, FilledIn, LatestIn, Added, BegunIn}
 use Rattle.cells.proofs.Fields.{length-column, length-word-column, word-only}
 use Rattle.cells.proofs.Marking.{new-unmarked}
 use Rattle.cells.proofs.Insertion.{inserted, buckets-more, indexed-none}

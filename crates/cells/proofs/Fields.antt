@@ -6,7 +6,7 @@ use native.Mathlib.Omega.{arith}
 use lib.ListN.{length, getD, set, length-map, List·getD-map}
 use lib.Seq.{getD-set-same, getD-set-other, map-set-same, ext-getD}
 use Rattle.cells.specs.Cells.{cellWords}
-use Rattle.cells.specs.Columns.{half, placeField, patternField, distanceField, parentField, headField, nextField, marksField, bucketField, column, wordColumn, Only, Stored, Entered}
+use Rattle.cells.specs.inner.Columns.{half, placeField, patternField, distanceField, parentField, headField, nextField, marksField, bucketField, column, wordColumn, Only, Stored, Entered}
 
 -- ---- a function on each element
 map-set : (f : List ℕ → ℕ) (l : List (List ℕ)) (i : ℕ) (y : List ℕ) → map f (set l i y) ≡ set (map f l) i (f y)

@@ -4,9 +4,9 @@ use mathlib.Core.List.{List}
 use Prim.Native.Nat.{ℕ, _-_, _≤_, _<_}
 use native.Mathlib.Omega.{arith}
 use lib.ListN.{getD}
-use Rattle.cells.specs.Columns.{placeField, patternField, headField, bucketField, column, wordColumn}
-use Rattle.cells.specs.Index.{nodeAt, bucketOf}
-use Rattle.cells.specs.Entries.{FilledIn, LatestIn}
+use Rattle.cells.specs.inner.Columns.{placeField, patternField, headField, bucketField, column, wordColumn}
+use Rattle.cells.specs.inner.Index.{nodeAt, bucketOf}
+use Rattle.cells.specs.inner.Entries.{FilledIn, LatestIn}
 use Rattle.cells.proofs.Insertion.{head-of, head-void}
 
 module _ (c : List (List ℕ)) (count size b head h : ℕ) (f : FilledIn c count size) (read : head ≡ getD (column headField c) b 0) (is : h ≡ head) where

@@ -8,8 +8,8 @@ use native.Mathlib.Decide.{ℕ-discrete}
 use native.Mathlib.Omega.{arith}
 use lib.ListN.{length, getD, set, length-set}
 use lib.Seq.{getD-set-same, getD-set-other}
-use Rattle.cells.specs.Columns.{distanceField, parentField, wayField, column, Only, Stored}
-use Rattle.cells.specs.Way.{Parents, Traced}
+use Rattle.cells.specs.inner.Columns.{distanceField, parentField, wayField, column, Only, Stored}
+use Rattle.cells.specs.inner.Way.{Parents, Traced}
 use Rattle.cells.proofs.Fields.{length-column}
 
 -- the walk stands at entry i, at place d

@@ -4,11 +4,11 @@ ghost use mathlib.Core.Path.{_≡_};
 ghost use Prim.Native.Nat.{_+_, _*_, _/_, _%_, _<_, _≤_, min};
 ghost use lib.ListN.{length, getD, set};
 ghost use Rattle.cells.specs.Cells.{cellWords, mostCells, cellsOf, zeroed};
-ghost use Rattle.cells.specs.Columns.{half, placeField, patternField, distanceField, parentField, marksField, wayField, column, wordColumn, columnsOf, Only, Stored, Entered};
-ghost use Rattle.cells.specs.Index.{node, foldOf, bucketOf, FoundIs};
-ghost use Rattle.cells.specs.Entries.{entriesOf, FilledIn, LatestIn, Added, BegunIn};
-ghost use Rattle.cells.specs.Marks.{isMarked, marking};
-ghost use Rattle.cells.specs.Way.{Parents, Traced};
+ghost use Rattle.cells.specs.inner.Columns.{half, placeField, patternField, distanceField, parentField, marksField, wayField, column, wordColumn, columnsOf, Only, Stored, Entered};
+ghost use Rattle.cells.specs.inner.Index.{node, foldOf, bucketOf, FoundIs};
+ghost use Rattle.cells.specs.inner.Entries.{entriesOf, FilledIn, LatestIn, Added, BegunIn};
+ghost use Rattle.cells.specs.inner.Marks.{isMarked, marking};
+ghost use Rattle.cells.specs.inner.Way.{Parents, Traced};
 
 // At most so many cells are used.
 const MOST: usize = 65536;

@@ -20,7 +20,7 @@ use Rattle.flow.specs.Code.{row as rowBy, instructionOf, flowOf}
 use Rattle.flow.specs.declared.Kind.the-variants.{Read}
 use Rattle.flow.specs.declared.Flow.{Flow as Rows}
 use Rattle.flow.specs.declared.Instruction.{Instruction as Row}
-use Rattle.configuration.specs.Inner.{constantIn}
+use Rattle.configuration.specs.inner.Prepare.{constantIn}
 use Rattle.configuration.proofs.Prepared.{few-constants}
 
 abbrev pub lesser : ℤ → ℤ → ℤ

@@ -12,10 +12,10 @@ use borrow.Author.Tests.{leb-true}
 use lib.Dec.{leb}
 use Rattle.model.specs.Language.{Instruction, Field, fields, constants}
 use Rattle.flow.specs.Words.{sorts, mayMinus, count, at, built}
-use Rattle.flow.specs.Inner.{field}
+use Rattle.flow.specs.inner.Reader.{field}
 use Rattle.flow.specs.Code.{kind, numbers, numbersIn, instructionOf}
 use Rattle.flow.specs.Read.{all, inRange, isNamed}
-use Rattle.flow.specs.Inner.{HeadFits}
+use Rattle.flow.specs.inner.Reader.{HeadFits}
 use Rattle.flow.proofs.RowLaws.{placed}
 use Rattle.flow.specs.declared.Head.{Head}
 use Rattle.flow.proofs.Tests.{and-split}
@@ -25,8 +25,8 @@ use Rattle.flow.specs.declared.Sort.{Sort}
 use Rattle.flow.specs.declared.Sort.the-variants.{Tape, Output, Variable, Target, Constant}
 use Rattle.flow.proofs.SortLaws.{sort-field, number-field, constants-field}
 use Rattle.flow.proofs.RowLaws.{tried, fields-built, parts-built}
-use Rattle.configuration.specs.Inner.{isCount, FitBytes, constantIn, formed}
-use Rattle.configuration.specs.Op.{offset, opOf}
+use Rattle.configuration.specs.inner.Prepare.{isCount, FitBytes, constantIn, formed}
+use Rattle.configuration.specs.inner.Op.{offset, opOf}
 use Rattle.configuration.specs.declared.Op.{Op}
 
 -- ---- the form of a row

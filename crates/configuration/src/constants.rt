@@ -1,4 +1,4 @@
-// The constants of a flow: C1 and C2, and instructions prepared for a search, in which a constant is its offset from C1 (specs/Op.antt).
+// The constants of a flow: C1 and C2, and instructions prepared for a search, in which a constant is its offset from C1 (specs/inner/Op.antt).
 
 ghost use mathlib.Core.Path.{_≡_};
 ghost use mathlib.Core.Bool.{cond};
@@ -7,8 +7,8 @@ ghost use Rattle.model.specs.Language.{C1, C2};
 ghost use Rattle.flow.specs.Limits.{maxInstructions};
 ghost use Rattle.flow.specs.Words.{count};
 ghost use Rattle.flow.specs.Code.{instructionOf, flowOf};
-ghost use Rattle.configuration.specs.Inner.{FitBytes, constantIn, formed};
-ghost use Rattle.configuration.specs.Op.{offset, widthOf, opOf};
+ghost use Rattle.configuration.specs.inner.Prepare.{FitBytes, constantIn, formed};
+ghost use Rattle.configuration.specs.inner.Op.{offset, widthOf, opOf};
 use crate::Op;
 use crate::Range;
 use flow::Flow;

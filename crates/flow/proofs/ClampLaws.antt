@@ -15,10 +15,10 @@ use lib.ListN.{List·getD-map}
 use Rattle.model.specs.Language.{Instruction, Field, fields}
 use Rattle.text.proofs.Cap.{test-cut}
 use Rattle.flow.specs.Words.{sorts, mayMinus, count, at, built, sort, number}
-use Rattle.flow.specs.Inner.{field}
+use Rattle.flow.specs.inner.Reader.{field}
 use Rattle.flow.specs.Read.{all, bounds, targets, between, inRange, isNamed}
 use Rattle.flow.specs.Code.{kind, numbers, row, rowOf, instructionOf}
-use Rattle.flow.specs.Inner.{small, bounded, clamped, HeadFits}
+use Rattle.flow.specs.inner.Reader.{small, bounded, clamped, HeadFits}
 use Rattle.flow.proofs.RowLaws.{placed}
 use Rattle.flow.specs.declared.Kind.{Kind}
 use Rattle.flow.specs.declared.Sort.{Sort}

@@ -10,12 +10,13 @@ use lib.Dec.{eqb, leb}
 use lib.ListN.{length, getD, take, drop, replicate, length-map, take-append-drop}
 use lib.Seq.{length-take-le}
 use Rattle.model.specs.Language.{Instruction, stop, Flow, fields}
-use Rattle.text.specs.Split.{lines, split, until}
+use Rattle.text.specs.Split.{lines, split}
 use Rattle.text.proofs.Parts.{lines-at}
+use Rattle.text.specs.inner.Divided.{until}
 use Rattle.flow.specs.Limits.{maxBytes}
 use Rattle.flow.specs.Read.{Checked, ok, fault, check, after, unless, readHead, readFlow, isNamed, all, readLines, lostTarget, readRest}
 use Rattle.flow.specs.Code.{rowOf, instructionOf, rowsOf, readingOf}
-use Rattle.flow.specs.Inner.{clamped, keptRows, judged, finished, HeadFits}
+use Rattle.flow.specs.inner.Reader.{clamped, keptRows, judged, finished, HeadFits}
 use Rattle.flow.specs.declared.Refusal.{Refusal}
 use Rattle.flow.specs.declared.Refusal.the-variants.{TooLong, NoBytes, NoLastEnd, NoInstruction, NoSuchTarget}
 use Rattle.flow.specs.declared.Head.{Head}

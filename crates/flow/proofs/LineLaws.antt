@@ -15,19 +15,20 @@ use lib.IntN.{ℤ, pos, negsuc, natAbs}
 use lib.ListN.{length, getD, take, drop, set, replicate, length-drop, take-append-drop, drop-of-length-le}
 use lib.Seq.{drop-cons, drop-drop, take-suc-set, drop-set-lt}
 use Rattle.model.specs.Language.{Instruction, fields}
-use Rattle.text.specs.Split.{lines, split, until}
+use Rattle.text.specs.Split.{lines, split}
 use Rattle.text.specs.Number.{numeral, natural}
-use Rattle.text.specs.Capped.{cap, capped, cappedNumber}
+use Rattle.text.specs.inner.Capped.{cap, capped, cappedNumber}
 use Rattle.text.specs.declared.Number.the-variants.{Value, Bad}
 use Rattle.text.proofs.Cap.{number-value, number-bad, test-cut}
 use Rattle.text.proofs.Parts.{lines-at, lines-at-end}
 use Rattle.text.proofs.Decimal.{none-no-some}
+use Rattle.text.specs.inner.Divided.{until}
 use Rattle.flow.specs.Limits.{maxInstructions}
 use Rattle.flow.specs.Words.{kindOf, sorts, mayMinus, built}
 use Rattle.flow.specs.Read.{Checked, ok, fault, check, given, after, inRange, all, joined, numerals, readLine, readLines}
 use Rattle.flow.specs.Code.{row}
-use Rattle.flow.specs.Inner.{small, bounded, clamped, keptRows, HeadFits}
-use Rattle.flow.specs.Line.{smallAt, beginLine, endLine}
+use Rattle.flow.specs.inner.Reader.{small, bounded, clamped, keptRows, HeadFits}
+use Rattle.flow.specs.inner.Line.{smallAt, beginLine, endLine}
 use Rattle.flow.specs.declared.Kind.{Kind}
 use Rattle.flow.specs.declared.Sort.{Sort}
 use Rattle.flow.specs.declared.Sort.the-variants.{Target}

@@ -18,7 +18,7 @@ use Rattle.flow.specs.Limits.{maxInstructions}
 use Rattle.flow.specs.Words.{kindOf, sorts, built}
 use Rattle.flow.specs.Read.{Checked, ok, fault, check, given, after, inRange, isNamed, all, numerals, readLine, readLines, lostTarget}
 use Rattle.flow.specs.Code.{instructionOf}
-use Rattle.flow.specs.Inner.{clamped, HeadFits}
+use Rattle.flow.specs.inner.Reader.{clamped, HeadFits}
 use Rattle.flow.specs.declared.Kind.{Kind}
 use Rattle.flow.specs.declared.Refusal.{Refusal}
 use Rattle.flow.specs.declared.Refusal.the-variants.{UnknownWord, WrongCount, BadNumber, OutOfTurn, OutOfRange, TooManyLines}

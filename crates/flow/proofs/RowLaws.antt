@@ -12,13 +12,13 @@ use lib.IntN.{ℤ, pos}
 use lib.ListN.{length, getD, drop, replicate, drop-of-length-le}
 use lib.Seq.{drop-cons}
 use Rattle.model.specs.Language.{Instruction, read, put, copy, const, less, over, under, nop, stop, Field, fields}
-use Rattle.model.proofs.Lists.{All}
+use Rattle.model.specs.inner.Lists.{All}
 use Rattle.text.specs.Split.{sameWord}
 use Rattle.flow.specs.Words.{table, kinds, firstNamed, kindOf, sorts, at, built}
-use Rattle.flow.specs.Inner.{field}
+use Rattle.flow.specs.inner.Reader.{field}
 use Rattle.flow.specs.Read.{all}
 use Rattle.flow.specs.Code.{kind, numbers, row, numbersIn, rowOf, instructionOf}
-use Rattle.flow.specs.Inner.{four}
+use Rattle.flow.specs.inner.Reader.{four}
 use Rattle.flow.specs.declared.Kind.{Kind}
 use Rattle.flow.specs.declared.Kind.the-variants.{Read, Put, Copy, Set, Less, Over, Under, Nop, Stop}
 use Rattle.flow.specs.declared.Sort.{Sort}

@@ -11,7 +11,7 @@ use mir.Syntax.{w32, w64}
 use mir.Val.{SFits, toZ, ofZ}
 use mir.Facts.{toZ-ofZ}
 use Rattle.flow.specs.Words.{mayMinus, count, number}
-use Rattle.flow.specs.Inner.{field}
+use Rattle.flow.specs.inner.Reader.{field}
 use Rattle.flow.specs.declared.Sort.{Sort}
 use Rattle.flow.proofs.SortLaws.{number-field}
 

@@ -5,10 +5,10 @@ use mathlib.Core.List.{List, [], _∷_, map}
 use mathlib.Core.Option.{Option, none, some}
 use lib.IntN.{ℤ, pos}
 use Rattle.model.specs.Language.{Field, tape, output, variable, target, constant, constants}
-use Rattle.model.proofs.Lists.{All}
+use Rattle.model.specs.inner.Lists.{All}
 use Rattle.flow.specs.Limits.{leastConstant, greatestConstant}
 use Rattle.flow.specs.Words.{mayMinus, count, sort, number}
-use Rattle.flow.specs.Inner.{field}
+use Rattle.flow.specs.inner.Reader.{field}
 use Rattle.flow.specs.Read.{bounds, between}
 use Rattle.flow.specs.declared.Head.{Head}
 use Rattle.flow.specs.declared.Sort.{Sort}

@@ -8,9 +8,10 @@ use borrow.Author.Tests.{leb-true}
 use lib.Dec.{leb}
 use lib.ListN.{length}
 use Rattle.model.specs.Language.{Instruction, Flow, instruction, Field, tape, output, variable, target, constant, fields, C1, C2}
-use Rattle.model.proofs.Lists.{All}
-use Rattle.model.proofs.View.{Numbered, LegalFlow as Sound, OnTarget, Targeted, targeted, view, viewAt}
+use Rattle.model.proofs.View.{OnTarget, targeted}
 use Rattle.model.proofs.Constants.{legal-basic}
+use Rattle.model.specs.inner.Lists.{All}
+use Rattle.model.specs.inner.View.{Numbered, LegalFlow as Sound, Targeted, view, viewAt}
 use Rattle.flow.specs.Read.{all, inRange, isNamed}
 use Rattle.flow.specs.Legal.{Legal, head}
 

@@ -20,10 +20,10 @@ use Rattle.text.proofs.Joined.{Past, EachPart}
 use Rattle.text.proofs.Decimal.{none-no-some, decimal-read, plain-read, signed-read, natural-written, numeral-written, decimal-past, signed-past}
 use Rattle.flow.specs.Limits.{maxTapes, maxOutputs, maxVariables}
 use Rattle.flow.specs.Words.{table, kinds, firstNamed, kindOf, sorts, mayMinus, count, at, built, number}
-use Rattle.flow.specs.Inner.{field}
+use Rattle.flow.specs.inner.Reader.{field}
 use Rattle.flow.specs.Read.{ok, joined, numerals, inRange, all, headOf, readHead, readLine}
 use Rattle.flow.specs.Code.{kind, numbers}
-use Rattle.flow.specs.Inner.{HeadFits}
+use Rattle.flow.specs.inner.Reader.{HeadFits}
 use Rattle.flow.proofs.RowLaws.{placed}
 use Rattle.flow.specs.Write.{word, headFields, lineFields}
 use Rattle.flow.specs.declared.Kind.{Kind}

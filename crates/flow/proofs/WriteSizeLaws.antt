@@ -16,7 +16,7 @@ use Rattle.text.proofs.Decimal.{decimal-short}
 use Rattle.flow.specs.Limits.{maxBytes}
 use Rattle.flow.specs.Read.{inRange, isNamed, all}
 use Rattle.flow.specs.Legal.{Legal, head}
-use Rattle.flow.specs.Inner.{HeadFits}
+use Rattle.flow.specs.inner.Reader.{HeadFits}
 use Rattle.flow.specs.Words.{table, sorts, number}
 use Rattle.flow.specs.Code.{kind, numbers}
 use Rattle.flow.specs.Write.{word, headFields, lineFields, linesFrom, writeFlow}

@@ -18,7 +18,7 @@ ghost use Rattle.text.specs.Split.{lines};
 ghost use Rattle.flow.specs.Read.{headOf, readRest, readFlow, fault};
 ghost use Rattle.flow.specs.Words.{count as counted, at};
 ghost use Rattle.flow.specs.Code.{row, rowOf, numbersIn, readingOf, rowsOf, noFlow};
-ghost use Rattle.flow.specs.Inner.{headIn, maxNumbers, finished, HeadFits};
+ghost use Rattle.flow.specs.inner.Reader.{headIn, maxNumbers, finished, HeadFits};
 use lines::Targets;
 
 // The kinds of instruction, by their words.

@@ -8,7 +8,7 @@ ghost use Rattle.text.specs.Split.{lines, split};
 ghost use Rattle.flow.specs.Limits.{maxInstructions};
 ghost use Rattle.flow.specs.Read.{readHead, readLines, lostTarget};
 ghost use Rattle.flow.specs.Code.{rowOf, instructionOf};
-ghost use Rattle.flow.specs.Inner.{headIn, lostIn, linesIn, keptRows, HeadFits};
+ghost use Rattle.flow.specs.inner.Reader.{headIn, lostIn, linesIn, keptRows, HeadFits};
 use crate::Answer;
 use crate::Flow;
 use crate::Head;

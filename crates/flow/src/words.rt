@@ -6,7 +6,7 @@ ghost use Prim.Native.Nat.{_<_};
 ghost use lib.ListN.{length, getD};
 ghost use Rattle.text.specs.Split.{sameWord};
 ghost use Rattle.flow.specs.Words.{kindOf, sorts, mayMinus, branches};
-ghost use Rattle.flow.specs.Inner.{kindIn, maxNumbers, four};
+ghost use Rattle.flow.specs.inner.Reader.{kindIn, maxNumbers, four};
 ghost use Rattle.flow.specs.declared.Sort.the-variants.{Target};
 use crate::Instruction;
 use crate::Kind;

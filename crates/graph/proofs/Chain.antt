@@ -9,8 +9,8 @@ use native.Mathlib.Decide.{ℕ-discrete}
 use native.Mathlib.Omega.{arith}
 use lib.ListN.{length, getD, set}
 use lib.Seq.{getD-set-same, getD-set-other}
-use Rattle.graph.specs.Graph.{Graph}
-use Rattle.graph.proofs.Table.{Table, Sound}
+use Rattle.graph.specs.inner.Graph.{Graph}
+use Rattle.graph.specs.inner.Table.{Table, Sound}
 
 -- from place d to place `last`, path holds entries, each the parent of the next, up to entry i
 pub record Chain {A : Type 0} (t : Table A) (path : ℕ → ℕ) (i last d : ℕ) : Type 0 where

@@ -8,9 +8,9 @@ use native.Mathlib.Decide.{ℕ-discrete}
 use native.Mathlib.Omega.{arith}
 use lib.ListN.{length}
 use Rattle.graph.specs.Lists.{In, Census}
-use Rattle.graph.specs.Graph.{Graph, Path, here, onward, Reached}
+use Rattle.graph.specs.inner.Graph.{Graph, Path, here, onward, Reached}
 use Rattle.graph.proofs.Counting.{different-same, listed, listed-in, in-listed, listed-once, length-listed, census-unique}
-use Rattle.graph.proofs.Table.{Table, StoredNear, Child, Sound, Closed}
+use Rattle.graph.specs.inner.Table.{Table, StoredNear, Child, Sound, Closed}
 
 module _ {A L : Type 0} {G : Graph A L} {t : Table A} (sound : Sound G t) where
   -- what holds of entry 0, and of each entry if of its parent, holds of all

@@ -8,6 +8,7 @@ use native.Mathlib.Decide.{decLt}
 use native.Mathlib.Omega.{arith}
 use lib.ListN.{length}
 use Rattle.graph.specs.Lists.{In, Once, Census, MoreThan}
+use Rattle.graph.specs.inner.Table.{Different}
 
 module _ {A : Type 0} where
   -- m without its first a
@@ -39,8 +40,6 @@ module _ {A : Type 0} where
 
   -- ---- by index
   -- no two of f 0 .. f (n - 1) are equal
-  abbrev pub Different : (ℕ → A) → ℕ → Type 0
-  Different f n = (i j : ℕ) → i < j → j < n → f i ≡ f j → ⊥
 
   pub different-same : (f : ℕ → A) (n : ℕ) → Different f n → (i j : ℕ) → i < n → j < n → f i ≡ f j → i ≡ j
   different-same f n d i j l m e = go (decLt i j) (decLt j i)

@@ -2,7 +2,7 @@
 use mathlib.Core.Path.{_≡_}
 use Prim.Native.Nat.{ℕ}
 use native.Mathlib.Omega.{arith}
-use Rattle.graph.specs.Graph.{Graph, ExitDistance}
+use Rattle.graph.specs.inner.Graph.{Graph, ExitDistance}
 
 module _ {A L : Type 0} {G : Graph A L} {Wanted : A → L → Type 0} where
   pub distance-unique : (d e : ℕ) → ExitDistance G Wanted d → ExitDistance G Wanted e → d ≡ e

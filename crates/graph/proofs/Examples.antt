@@ -9,12 +9,12 @@ use lib.Dec.{eqb}
 use lib.ListN.{length, getD}
 use borrow.Author.Tests.{eq-eqb, eqb-true}
 use Rattle.graph.specs.Lists.{Census}
-use Rattle.graph.specs.Graph.{Graph, Reached, ExitDistance, NoExit}
-use Rattle.graph.proofs.Table.{Table, Closed, Expanded}
+use Rattle.graph.specs.inner.Graph.{Graph, Reached, ExitDistance, NoExit}
 use Rattle.graph.proofs.Complete.{census-count}
 use Rattle.graph.proofs.Wanted.{Tells, nearest-distance, first-nearest, none-no-exit}
-use Rattle.graph.proofs.Search.{Searching, search-start, push-one, seen, advance, finish}
+use Rattle.graph.proofs.Search.{search-start, push-one, seen, advance, finish}
 use Rattle.graph.proofs.Chain.{Chain, ChainLeads, chain-start, chain-set, chain-leads}
+use Rattle.graph.specs.inner.Table.{Table, Closed, Expanded, Searching}
 
 data Town : Type 0 where
   a b c d e f : Town

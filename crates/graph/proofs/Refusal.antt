@@ -11,10 +11,10 @@ use lib.ListN.{length}
 use borrow.Author.Count.{below-more}
 use borrow.Author.Tests.{lt-ltb, le-ltb}
 use Rattle.graph.specs.Lists.{Census, MoreThan}
-use Rattle.graph.specs.Graph.{Graph, here, onward, Reached}
+use Rattle.graph.specs.inner.Graph.{Graph, here, onward, Reached}
 use Rattle.graph.proofs.Counting.{different-more-than, census-fits-not-more}
-use Rattle.graph.proofs.Table.{Table, Sound, Closed, Fresh}
 use Rattle.graph.proofs.Complete.{entry-path, census-count, table-census}
+use Rattle.graph.specs.inner.Table.{Table, Sound, Closed, Fresh}
 
 -- without a cell the start alone outnumbers the cells
 pub start-outnumber : {A L : Type 0} (G : Graph A L) → MoreThan (Reached G) 0

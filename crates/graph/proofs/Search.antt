@@ -7,16 +7,9 @@ use mathlib.Core.Path.{_≡_, sym, ap, _∙_, subst, subst₂}
 use Prim.Native.Nat.{ℕ, _+_, _<_, _≤_}
 use native.Mathlib.Omega.{arith}
 use borrow.Author.Count.{below-more}
-use Rattle.graph.specs.Graph.{Graph}
-use Rattle.graph.proofs.Table.{Table, Held, StoredNear, Child, Sound, Expanded, Closed, Sorted, Fresh, Extends, Pushed, closed-kept}
-
--- k entries are expanded; distances never fall along the index, and none exceeds that of entry k by more than 1
-pub record Searching {A L : Type 0} (G : Graph A L) (t : Table A) (k : ℕ) : Type 0 where
-  pub sound : Sound G t
-  pub bound : k ≤ t .count
-  pub sorted : Sorted (t .dist) (t .count)
-  pub level : k < t .count → (i : ℕ) → i < t .count → t .dist i ≤ t .dist k + 1
-  pub closed : Closed G t k
+use Rattle.graph.specs.inner.Graph.{Graph}
+use Rattle.graph.proofs.Table.{closed-kept}
+use Rattle.graph.specs.inner.Table.{Table, Held, StoredNear, Child, Expanded, Closed, Fresh, Extends, Pushed, Searching}
 
 -- a child, by its parent
 child-of : {A L : Type 0} (G : Graph A L) (t : Table A) (i j : ℕ) (l : L) → t .parent i ≡ j → j < i → G .Edge (t .node j) l (t .node i)

@@ -1,76 +1,10 @@
 -- A table of a breadth-first search: entries by index, each a node with its distance and the entry it was first met from. It is given by
 -- functions of the index, so that rows, lists and records all make one. Machinery: inner contracts cite it, no promise does.
-use mathlib.Core.Path.{_≡_, refl, _∙_, subst}
+use mathlib.Core.Path.{refl, _∙_, subst}
 use Prim.Native.Nat.{ℕ, _+_, _<_, _≤_}
 use native.Mathlib.Omega.{arith}
-use Rattle.graph.specs.Graph.{Graph}
-use Rattle.graph.proofs.Counting.{Different}
-
-pub record Table (A : Type 0) : Type 0 where
-  pub count : ℕ
-  pub node : ℕ → A
-  pub dist : ℕ → ℕ
-  pub parent : ℕ → ℕ
-
--- y is an entry's node
-pub record Held {A : Type 0} (t : Table A) (y : A) : Type 0 where
-  pub at : ℕ
-  pub below : at < t .count
-  pub is : t .node at ≡ y
-
--- y is an entry's node, at a distance of at most d
-pub record StoredNear {A : Type 0} (t : Table A) (y : A) (d : ℕ) : Type 0 where
-  pub at : ℕ
-  pub below : at < t .count
-  pub is : t .node at ≡ y
-  pub near : t .dist at ≤ d
-
--- an edge leads to entry i from its parent, an earlier entry, and makes up the difference of their distances
-pub record Child {A L : Type 0} (G : Graph A L) (t : Table A) (i : ℕ) : Type 0 where
-  pub before : t .parent i < i
-  pub label : L
-  pub edge : G .Edge (t .node (t .parent i)) label (t .node i)
-  pub further : t .dist i ≡ t .dist (t .parent i) + G .cost label
-
--- entry 0 is the start, no node stands twice, and each later entry has its parent: so each is reached at its distance
-pub record Sound {A L : Type 0} (G : Graph A L) (t : Table A) : Type 0 where
-  pub some : 0 < t .count
-  pub origin : t .node 0 ≡ G .start
-  pub origin-dist : t .dist 0 ≡ 0
-  pub origin-parent : t .parent 0 ≡ 0
-  pub different : Different (t .node) (t .count)
-  pub child : (i : ℕ) → 0 < i → i < t .count → Child G t i
-
--- each edge of entry i leads to a stored node, no further than the edge says
-abbrev pub Expanded : {A L : Type 0} → Graph A L → Table A → ℕ → Type 0
-Expanded {A} {L} G t i = (l : L) (y : A) → G .Edge (t .node i) l y → StoredNear t y (t .dist i + G .cost l)
-
--- the entries before k are expanded
-abbrev pub Closed : {A L : Type 0} → Graph A L → Table A → ℕ → Type 0
-Closed G t k = (i : ℕ) → i < k → Expanded G t i
-
--- distances never fall along the index
-abbrev pub Sorted : (ℕ → ℕ) → ℕ → Type 0
-Sorted dist n = (i j : ℕ) → i ≤ j → j < n → dist i ≤ dist j
-
--- y is no entry's node
-abbrev pub Fresh : {A : Type 0} → Table A → A → Type 0
-Fresh t y = (j : ℕ) → j < t .count → t .node j ≡ y → ⊥
-
--- ---- a table that grows: the entries so far stay
-pub record Extends {A : Type 0} (t t′ : Table A) : Type 0 where
-  pub more : t .count ≤ t′ .count
-  pub nodes : (i : ℕ) → i < t .count → t′ .node i ≡ t .node i
-  pub dists : (i : ℕ) → i < t .count → t′ .dist i ≡ t .dist i
-  pub parents : (i : ℕ) → i < t .count → t′ .parent i ≡ t .parent i
-
--- one entry more: y at distance d from parent p
-pub record Pushed {A : Type 0} (t t′ : Table A) (y : A) (d p : ℕ) : Type 0 where
-  pub old : Extends t t′
-  pub one : t′ .count ≡ t .count + 1
-  pub node : t′ .node (t .count) ≡ y
-  pub dist : t′ .dist (t .count) ≡ d
-  pub parent : t′ .parent (t .count) ≡ p
+use Rattle.graph.specs.inner.Graph.{Graph}
+use Rattle.graph.specs.inner.Table.{Table, Held, StoredNear, Expanded, Expanded, Closed, Extends}
 
 pub extends-same : {A : Type 0} (t : Table A) → Extends t t
 extends-same t = record { more = omega arith; nodes = λ i l. refl; dists = λ i l. refl; parents = λ i l. refl }

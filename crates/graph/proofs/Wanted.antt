@@ -7,9 +7,9 @@ use Prim.Native.Nat.{ℕ, _+_, _<_, _≤_}
 use native.Mathlib.Decide.{decLt}
 use native.Mathlib.Omega.{arith}
 use borrow.Author.Count.{below-more}
-use Rattle.graph.specs.Graph.{Graph, ExitPath, ExitDistance, NoExit}
-use Rattle.graph.proofs.Table.{Table, Sound, Closed, Sorted}
+use Rattle.graph.specs.inner.Graph.{Graph, ExitPath, ExitDistance, NoExit}
 use Rattle.graph.proofs.Complete.{entry-path, path-stored}
+use Rattle.graph.specs.inner.Table.{Table, Sound, Closed, Sorted, NoneBefore}
 
 -- a wanted edge leaves x
 pub record Leaves {A L : Type 0} (G : Graph A L) (Wanted : A → L → Type 0) (x : A) : Type 0 where
@@ -23,10 +23,6 @@ pub record Tells {A L : Type 0} (G : Graph A L) (Wanted : A → L → Type 0) (t
   pub leaves : (i : ℕ) → i < t .count → takes i ≡ true → Leaves G Wanted (t .node i)
   pub all : (i : ℕ) → i < t .count → Leaves G Wanted (t .node i) → takes i ≡ true
   pub costs : (x : A) (l : L) → Wanted x l → G .cost l ≡ c
-
--- no entry before k takes
-abbrev pub NoneBefore : (ℕ → Bool) → ℕ → Type 0
-NoneBefore takes k = (j : ℕ) → j < k → takes j ≡ true → ⊥
 
 -- of the entries before k that take, i has the least distance, and is the first that has it
 pub record Nearest (takes : ℕ → Bool) (dist : ℕ → ℕ) (k i : ℕ) : Type 0 where

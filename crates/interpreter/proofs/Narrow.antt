@@ -12,12 +12,13 @@ use lib.ListN.{getD, set, take}
 use lib.Seq.{getD-take, take-set-lt}
 use Rattle.model.specs.Language.{Instruction, Flow, Field, tape, output, variable, target, constant}
 use Rattle.model.specs.Machine.{State, goTo, stepBy, exitIf, hasRecord, exitBy}
-use Rattle.model.proofs.View.{Term, held, literal, View, reads, sets, tests, goes, stops, view, term, onTape, taken}
+use Rattle.model.proofs.View.{onTape, taken}
 use Rattle.model.proofs.View.{stepView, exitView, step-by, exit-by, SoundTerm, SoundView}
+use Rattle.model.specs.inner.View.{Term, held, literal, View, reads, sets, tests, goes, stops, view, term}
 use Rattle.flow.specs.Read.{all, inRange, isNamed}
 use Rattle.flow.specs.declared.Head.{Head}
 use Rattle.flow.proofs.Tests.{and-split, counts-from-one}
-use Rattle.interpreter.specs.Held.{FieldFits, FieldsFit}
+use Rattle.interpreter.specs.inner.Arrays.{FieldFits, FieldsFit}
 
 -- ---- fields in range name tapes and variables that there are
 

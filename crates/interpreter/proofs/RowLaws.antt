@@ -11,7 +11,8 @@ use lib.ListN.{length, getD, take, length-take, length-map}
 use lib.Seq.{getD-take}
 use Rattle.model.specs.Language.{Instruction, stop, instruction, fields}
 use Rattle.model.specs.Machine.{State, value, stepBy}
-use Rattle.model.proofs.View.{View, reads, sets, tests, goes, stops as ends, view, term, onTape, taken, stepView, step-by, Targeted}
+use Rattle.model.proofs.View.{onTape, taken, stepView, step-by}
+use Rattle.model.specs.inner.View.{View, reads, sets, tests, goes, stops as ends, view, term, Targeted}
 use Rattle.flow.specs.Code.{numbersIn, instructionOf, flowOf}
 use Rattle.flow.specs.Legal.{Legal, head}
 use Rattle.flow.specs.Read.{all, isNamed}
@@ -23,7 +24,7 @@ use Rattle.flow.specs.Words.{built}
 use Rattle.flow.proofs.RowLaws.{tried}
 use Rattle.flow.proofs.Tests.{named-targets}
 use Rattle.interpreter.proofs.Narrow.{ranges-fit, fit-more}
-use Rattle.interpreter.specs.Held.{FieldsFit, RowFits, countAt, stops, outputs}
+use Rattle.interpreter.specs.inner.Arrays.{FieldsFit, RowFits, countAt, stops, outputs}
 use Rattle.interpreter.specs.Run.{Output, isStop, putsBy}
 
 -- ---- by kind

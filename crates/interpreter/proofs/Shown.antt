@@ -13,7 +13,8 @@ use lib.ListN.{length, getD, set, drop, length-append, length-drop, length-map}
 use lib.Seq.{drop-cons, set-append-seam}
 use Rattle.model.specs.Language.{Instruction, instruction, fields, C1, C2}
 use Rattle.model.specs.Machine.{State, value, stepBy, Exit, p-exit, m-exit, exitBy, exitOf}
-use Rattle.model.proofs.View.{view, SoundView, sound}
+use Rattle.model.proofs.View.{SoundView, sound}
+use Rattle.model.specs.inner.View.{view}
 use Rattle.flow.specs.Code.{instructionOf, flowOf}
 use Rattle.flow.specs.Legal.{Legal}
 use Rattle.flow.specs.Read.{all, isNamed}
@@ -24,7 +25,7 @@ use Rattle.interpreter.proofs.Narrow.{Narrow, same-value, narrow-step, 
 use Rattle.interpreter.proofs.RowLaws.{putting, row-stops, row-puts, put-fits, leads-on, row-is, flow-fits}
 use Rattle.flow.specs.Words.{branches}
 use Rattle.interpreter.specs.declared.Onward.{Onward}
-use Rattle.interpreter.specs.Held.{FieldsFit, countAt, held, Placed, stops, outputs, exitWhen, Stepped}
+use Rattle.interpreter.specs.inner.Arrays.{FieldsFit, countAt, held, Placed, stops, outputs, exitWhen, Stepped}
 use Rattle.interpreter.specs.Run.{Output, Progress, coming, putsBy, counted, onward, isStop, fit, written}
 
 -- one cell more of a row is written

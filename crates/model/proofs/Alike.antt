@@ -7,9 +7,11 @@ use native.Mathlib.Omega.{arith}
 use lib.IntN.{ℤ, pos}
 use lib.Signed.{ltZ}
 use lib.ListN.{length, set, length-set, length-map}
-use Rattle.model.proofs.Integers.{zarith, Inside}
-use Rattle.model.proofs.View.{Term, held, literal, term, Known}
+use Rattle.model.proofs.Integers.{zarith}
+use Rattle.model.proofs.View.{Known}
 use Rattle.model.proofs.Faithful.{Faithful, term-map}
+use Rattle.model.specs.inner.Integers.{Inside}
+use Rattle.model.specs.inner.View.{Term, held, literal, term}
 
 pub record Alike (lo hi : ℤ) (v w : List ℤ) : Type 0 where
   pub size : length v ≡ length w

@@ -12,13 +12,16 @@ use lib.Seq.{set-set}
 use lib.Dec.{T}
 use Rattle.model.specs.Pattern.{rank, mark, pattern}
 use Rattle.model.specs.Sample.{Near}
-use Rattle.model.proofs.Integers.{true-in, Inside}
-use Rattle.model.proofs.Lists.{All, all-of, all-getD, all-set, all-map}
-use Rattle.model.proofs.View.{held, literal, laneValue}
+use Rattle.model.proofs.Integers.{true-in}
+use Rattle.model.proofs.Lists.{all-of, all-getD, all-set, all-map}
 use Rattle.model.proofs.Alike.{Alike, alike-set, Fits, fits-term}
 use Rattle.model.proofs.Side.{place, spread, spreadValue, inside-near, Side, side, Zone, beyond, within, zone}
 use Rattle.model.proofs.Ranks.{different-length, moved-beyond, pattern-alike, alike-pattern}
-use Rattle.model.proofs.Room.{Absent, holds, furthest, Top, top, top-is, fits-next}
+use Rattle.model.proofs.Room.{Absent, holds, Top, top, top-is, fits-next}
+use Rattle.model.specs.inner.Lists.{All}
+use Rattle.model.specs.inner.Integers.{Inside}
+use Rattle.model.specs.inner.View.{held, literal, laneValue}
+use Rattle.model.specs.inner.Runs.{furthest}
 
 -- if u lies beyond the edge, it does so at an even distance of at most 2 n
 abbrev pub Even : {lo hi : ℤ} → Side lo hi → ℕ → ℤ → Type 0

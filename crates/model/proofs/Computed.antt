@@ -18,15 +18,17 @@ use Rattle.graph.specs.Lists.{In, Once}
 use Rattle.graph.proofs.Counting.{in-map, map-in}
 use Rattle.model.specs.Configuration.{Configuration, configuration, Census}
 use Rattle.model.specs.Distance.{Distance, NoDistance}
-use Rattle.model.proofs.Integers.{zarith, up, dn, suc-is, sub-pos, and-in, and-out, or-in, or-left, or-right, true-in, false-in}
-use Rattle.model.proofs.Lists.{All, all-getD, in-left, in-right, in-either}
-use Rattle.model.proofs.View.{View, reads, sets, tests, goes, stops, viewAt, Numbered, LegalFlow}
+use Rattle.model.proofs.Integers.{zarith, suc-is, sub-pos, and-in, and-out, or-in, or-left, or-right, true-in, false-in}
+use Rattle.model.proofs.Lists.{all-getD, in-left, in-right, in-either}
 use Rattle.model.proofs.Side.{near-in, near-out}
 use Rattle.model.proofs.Ranks.{equal-in, equal-out}
 use Rattle.model.proofs.Graph.{trial, fedWith, Edge, still, fed, origin, Reach, first, further}
 use Rattle.model.proofs.Exits.{takesExit, exit-edge, edge-exit}
 use Rattle.model.proofs.Theorems.{Leads, distance-of-paths, none-of-paths, reachable-reach, reach-reachable}
 use Rattle.model.proofs.Constants.{legal-basic}
+use Rattle.model.specs.inner.Lists.{All}
+use Rattle.model.specs.inner.Integers.{up, dn}
+use Rattle.model.specs.inner.View.{View, reads, sets, tests, goes, stops, viewAt, Numbered, LegalFlow}
 
 -- ---- equality of configurations is decided by computation
 abbrev pub decided : {P : Type 0} (b : Bool) → (T b → P) → (P → T b) → Dec P

@@ -10,9 +10,11 @@ use lib.Signed.{ltZ}
 use lib.ListN.{getD}
 use Rattle.model.specs.Language.{Instruction, stop, Flow, instruction, fields, constants, allConstants, least, greatest, C1, C2}
 use Rattle.graph.specs.Lists.{In}
-use Rattle.model.proofs.Integers.{zarith, Inside}
-use Rattle.model.proofs.Lists.{All, in-left, in-right}
-use Rattle.model.proofs.View.{Numbered, LegalFlow}
+use Rattle.model.proofs.Integers.{zarith}
+use Rattle.model.proofs.Lists.{in-left, in-right}
+use Rattle.model.specs.inner.Lists.{All}
+use Rattle.model.specs.inner.Integers.{Inside}
+use Rattle.model.specs.inner.View.{Numbered, LegalFlow}
 
 -- one more constant: it lies inside, and what lay inside still does
 wider : (c lo hi x : ℤ) → Inside lo hi (pos 0) → (x ≡ c) ⊎ Inside lo hi x → Inside (cond (ltZ c lo) c lo) (cond (ltZ hi c) c hi) x

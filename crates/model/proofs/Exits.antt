@@ -15,9 +15,10 @@ use Rattle.model.specs.Machine.{State, Exit, p-exit, m-exit, exitIf, has
 use Rattle.model.specs.Configuration.{Configuration, configuration}
 use Rattle.model.proofs.Integers.{false-out}
 use Rattle.model.proofs.Lists.{getD-like}
-use Rattle.model.proofs.View.{View, reads, sets, tests, goes, stops, viewAt, term, exitView, exit-view, LegalFlow}
+use Rattle.model.proofs.View.{exitView, exit-view}
 use Rattle.model.proofs.Side.{inside-near}
 use Rattle.model.proofs.Graph.{trial, fedWith, Edge, still, fed}
+use Rattle.model.specs.inner.View.{View, reads, sets, tests, goes, stops, viewAt, term, LegalFlow}
 
 abbrev pub isExit : Exit → Bool → Bool
 isExit p-exit b = b

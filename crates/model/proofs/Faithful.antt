@@ -7,11 +7,11 @@ use lib.IntN.{ℤ, pos}
 use lib.Signed.{ltZ}
 use Rattle.model.specs.Language.{Flow}
 use Rattle.model.specs.Machine.{State, start, run}
-use Rattle.model.proofs.Integers.{Inside}
 use Rattle.model.proofs.Lists.{getD-map, set-map, map-replicate}
-use Rattle.model.proofs.View.{Term, held, literal, View, reads, sets, tests, goes, stops, viewAt}
-use Rattle.model.proofs.View.{term, onTape, taken, stepView, LegalFlow, Known, SoundTerm, SoundView, sound, known}
+use Rattle.model.proofs.View.{onTape, taken, stepView, Known, SoundTerm, SoundView, sound, known}
 use Rattle.model.proofs.Runs.{run-end}
+use Rattle.model.specs.inner.Integers.{Inside}
+use Rattle.model.specs.inner.View.{Term, held, literal, View, reads, sets, tests, goes, stops, viewAt, term, LegalFlow}
 
 pub record Faithful (lo hi : ℤ) (f : ℤ → ℤ) : Type 0 where
   pub keeps : (x y : ℤ) → ltZ (f x) (f y) ≡ ltZ x y

@@ -15,11 +15,12 @@ use Rattle.model.specs.Pattern.{Mark, pattern}
 use Rattle.model.specs.Configuration.{Configuration, configuration}
 use Rattle.model.specs.Sample.{Near}
 use Rattle.model.proofs.Lists.{getD-like}
-use Rattle.model.proofs.View.{View, reads, viewAt, stepView, exitView, step-view, exit-view, LegalFlow}
+use Rattle.model.proofs.View.{stepView, exitView, step-view, exit-view}
 use Rattle.model.proofs.Side.{spread}
 use Rattle.model.proofs.Ranks.{length-pattern}
 use Rattle.model.proofs.Candidates.{Spaced, spaced-spread, spaced-set, fan}
 use Rattle.model.proofs.Graph.{trial, fedWith, Edge, still, fed}
+use Rattle.model.specs.inner.View.{View, reads, viewAt, LegalFlow}
 
 pub record ByP (lo hi : ℤ) (c c′ : Configuration) (o : Option Exit) (a v p : ℕ) : Type 0 where
   pub exit : o ≡ some p-exit

@@ -4,7 +4,7 @@ use mathlib.Core.Path.{_≡_, refl, sym, ap, ap₂, _∙_, subst}
 use mathlib.Core.Bool.{Bool, false}
 use mathlib.Core.List.{List, [], _∷_, _++_, map}
 use mathlib.Core.Option.{some}
-use Prim.Native.Nat.{ℕ, zero, suc, _+_, _<_, _≤_}
+use Prim.Native.Nat.{ℕ, zero, suc, _+_, _<_}
 use native.Mathlib.Omega.{arith}
 use lib.IntN.{ℤ, pos}
 use lib.ListN.{length, getD, set, replicate, length-set, length-map, length-replicate, length-append}
@@ -13,18 +13,16 @@ use Rattle.model.specs.Language.{Flow}
 use Rattle.model.specs.Machine.{State, Exit, p-exit, exitIf, hasRecord, step, exitOf, start, run}
 use Rattle.model.specs.Distance.{Takes, Distance}
 use Rattle.model.specs.Sample.{Near, Sample}
-use Rattle.model.proofs.Lists.{All, all-in, all-getD, all-set, all-snoc, all-map, all-replicate, map-replicate, getD-like, set-like}
-use Rattle.model.proofs.View.{View, reads, sets, tests, goes, stops, viewAt, term, onTape}
-use Rattle.model.proofs.View.{stepView, exitView, step-view, exit-view, LegalFlow, SoundView, sound, known}
+use Rattle.model.proofs.Lists.{all-in, all-getD, all-set, all-snoc, all-map, all-replicate, map-replicate, getD-like, set-like}
+use Rattle.model.proofs.View.{onTape}
+use Rattle.model.proofs.View.{stepView, exitView, step-view, exit-view, SoundView, sound, known}
 use Rattle.model.proofs.Faithful.{Faithful, mapState, run-map}
 use Rattle.model.proofs.Side.{near-wider, inside-near}
 use Rattle.model.proofs.Room.{near-term}
 use Rattle.model.proofs.Runs.{steps-end, append, more, run-more}
-use Rattle.model.proofs.Graph.{resting}
-
-abbrev pub records : List (List ℤ) → ℕ
-records [] = 0
-records (t ∷ ts) = length t + records ts
+use Rattle.model.specs.inner.Lists.{All}
+use Rattle.model.specs.inner.View.{View, reads, sets, tests, goes, stops, viewAt, term, LegalFlow}
+use Rattle.model.specs.inner.Runs.{resting, records, RunStands}
 
 records-append : (ts : List (List ℤ)) (a : ℕ) (x : ℤ) → a < length ts → records (append ts a x) ≡ suc (records ts)
 records-append [] a x h = absurd (omega arith)
@@ -38,15 +36,6 @@ records-map f (t ∷ ts) = ap₂ _+_ (length-map t f) (records-map f ts)
 records-none : (n : ℕ) → records (replicate n []) ≡ 0
 records-none zero = refl
 records-none (suc n) = omega (arith, records-none n)
-
--- after n steps, r of which read a record, the run stands at instruction k with the values v and the ends e, and has read all of its tapes
-pub record RunStands (lo hi : ℤ) (flow : Flow) (n r : ℕ) (tapes : List (List ℤ)) (k : ℕ) (v : List ℤ) (e : List Bool) : Type 0 where
-  pub count : length tapes ≡ flow .tapes
-  pub is : run flow tapes n ≡ resting flow k v e
-  pub near : All (All (Near lo hi r)) tapes
-  pub values-near : All (Near lo hi r) v
-  pub total : records tapes ≡ r
-  pub few : r ≤ n
 
 step-left : (flow : Flow) (w : View) (k : ℕ) (v : List ℤ) (e : List Bool) → stepView w (resting flow k v e) .left ≡ replicate (flow .tapes) []
 step-left flow (reads a u p m) k v e = rw (getD-like {A = List ℤ} (flow .tapes) a []) refl

@@ -15,17 +15,15 @@ use Rattle.model.specs.Pattern.{pattern}
 use Rattle.model.specs.Configuration.{Configuration, configuration}
 use Rattle.model.specs.Sample.{Near}
 use Rattle.model.proofs.Lists.{getD-like}
-use Rattle.model.proofs.View.{View, reads, sets, tests, goes, stops, viewAt, onTape}
-use Rattle.model.proofs.View.{stepView, exitView, step-view, exit-view, LegalFlow, SoundView, sound, known}
+use Rattle.model.proofs.View.{onTape}
+use Rattle.model.proofs.View.{stepView, exitView, step-view, exit-view, SoundView, sound, known}
 use Rattle.model.proofs.Alike.{Alike, alike-sym, alike-set, fits-term}
 use Rattle.model.proofs.Side.{spread}
 use Rattle.model.proofs.Ranks.{pattern-alike, alike-spread, length-pattern}
 use Rattle.model.proofs.Candidates.{candidate, spaced-spread}
 use Rattle.model.proofs.Runs.{steps-end, Fair, fair-run, open-tape}
-
--- at instruction k, with the values v and the ends e, and nothing left on any tape
-abbrev pub resting : Flow → ℕ → List ℤ → List Bool → State
-resting flow k v e = record { next = k; variables = v; left = replicate (flow .tapes) []; ended = e }
+use Rattle.model.specs.inner.View.{View, reads, sets, tests, goes, stops, viewAt, LegalFlow}
+use Rattle.model.specs.inner.Runs.{resting}
 
 abbrev pub trial : (lo hi : ℤ) → Flow → Configuration → State
 trial lo hi flow c = resting flow (c .next) (spread lo hi (c .marks)) (c .ended)

@@ -8,14 +8,7 @@ use native.Mathlib.Omega.{arith}
 use lib.IntN.{ℤ, pos, negsuc, sucℤ, predℤ, _+ℤ_, subℕ, negℤ}
 use lib.Signed.{ltZ, leZ}
 use lib.Dec.{T, ltb, ltb→lt, lt→ltb, leb→le, le→leb, nltb→le, not-T}
-
-abbrev pub up : ℤ → ℕ
-up (pos n) = n
-up (negsuc n) = 0
-
-abbrev pub dn : ℤ → ℕ
-dn (pos n) = 0
-dn (negsuc n) = suc n
+use Rattle.model.specs.inner.Integers.{up, dn}
 
 -- ---- orders
 pub lt-in : (x y : ℤ) → T (ltZ x y) → up x + dn y < up y + dn x
@@ -147,8 +140,3 @@ add-pos x n = omega (arith, add-is x (pos n))
 pub sub-pos : (x : ℤ) (n : ℕ) → up (x +ℤ negℤ (pos n)) + (dn x + n) ≡ up x + dn (x +ℤ negℤ (pos n))
 sub-pos x zero = omega (arith, add-is x (pos 0))
 sub-pos x (suc n) = omega (arith, add-is x (negsuc n))
-
--- a number from lo to hi
-pub record Inside (lo hi c : ℤ) : Type 0 where
-  pub low : T (leZ lo c)
-  pub high : T (leZ c hi)

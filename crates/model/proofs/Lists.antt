@@ -5,11 +5,7 @@ use mathlib.Core.Logic.{_⊎_, inl, inr}
 use Prim.Native.Nat.{ℕ, zero, suc}
 use lib.ListN.{getD, set, replicate}
 use Rattle.graph.specs.Lists.{In}
-
--- P of every element
-abbrev pub All : {A : Type 0} → (A → Type 0) → List A → Type 0
-All P [] = Unit {0}
-All P (x ∷ xs) = P x × All P xs
+use Rattle.model.specs.inner.Lists.{All}
 
 module _ {A : Type 0} (P : A → Type 0) where
   pub all-in : (l : List A) (x : A) → All P l → In x l → P x

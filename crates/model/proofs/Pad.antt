@@ -19,16 +19,15 @@ use Rattle.graph.specs.Lists.{In}
 use Rattle.graph.proofs.Counting.{census-map}
 use Rattle.model.specs.Configuration.{Configuration, configuration, Reachable, Census}
 use Rattle.model.specs.Sample.{Sample}
-use Rattle.model.proofs.Integers.{zarith, false-out, Inside}
+use Rattle.model.proofs.Integers.{zarith, false-out}
 use Rattle.model.proofs.Lists.{all-weaker, in-left, map-replicate}
-use Rattle.model.proofs.View.{Term, held, literal, View, reads, sets, tests, goes, stops, viewAt, term}
-use Rattle.model.proofs.View.{onTape, taken, stepView, exitView, exit-view, Numbered, LegalFlow, SoundTerm, SoundView, sound}
+use Rattle.model.proofs.View.{onTape, taken, stepView, exitView, exit-view, SoundTerm, SoundView, sound}
 use Rattle.model.proofs.Side.{mark-inside}
 use Rattle.model.proofs.Ranks.{equal-in, length-pattern}
 use Rattle.model.proofs.Runs.{run-end, Fair, fair-run}
-
-abbrev pub wider : (nt nv : ℕ) → Flow → Flow
-wider nt nv flow = record { tapes = nt; outputs = flow .outputs; variables = nv; instructions = flow .instructions }
+use Rattle.model.specs.inner.Integers.{Inside}
+use Rattle.model.specs.inner.View.{Term, held, literal, View, reads, sets, tests, goes, stops, viewAt, term, Numbered, LegalFlow}
+use Rattle.model.specs.inner.Runs.{wider}
 
 -- ---- zeros beside the values change no rank
 among-pad : (x : ℤ) (v : List ℤ) (k : ℕ) → (x ≡ pos 0 → ⊥) → among x (v ++ replicate k (pos 0)) ≡ among x v

@@ -15,21 +15,17 @@ use Rattle.model.specs.Pattern.{Mark, pattern}
 use Rattle.model.specs.Configuration.{Configuration, configuration}
 use Rattle.model.specs.Distance.{Takes}
 use Rattle.model.specs.Sample.{Near}
-use Rattle.model.proofs.Integers.{Inside}
 use Rattle.model.proofs.Lists.{all-set, set-map}
-use Rattle.model.proofs.View.{reads, viewAt, literal, laneValue, LegalFlow}
 use Rattle.model.proofs.Alike.{Alike, alike-sym, alike-trans, alike-set, fits-term}
 use Rattle.model.proofs.Side.{spread, inside-near}
 use Rattle.model.proofs.Ranks.{pattern-alike, alike-spread, alike-pattern}
 use Rattle.model.proofs.Room.{Room, room}
 use Rattle.model.proofs.Runs.{append}
-use Rattle.model.proofs.Graph.{resting, trial, fedWith, Edge, still, fed, origin, Reach, first, further, silent-resting, silent-step}
-use Rattle.model.proofs.Follow.{RunStands, stands-start, stands-silent, takes-silent, takes-fed, stands-fed}
-
--- after n steps, r of which read a record, the run on the tapes stands at c with the values v
-pub record Follows (lo hi : ℤ) (flow : Flow) (n r : ℕ) (tapes : List (List ℤ)) (v : List ℤ) (c : Configuration) : Type 0 where
-  pub stands : RunStands lo hi flow n r tapes (c .next) v (c .ended)
-  pub marks : pattern lo hi v ≡ c .marks
+use Rattle.model.proofs.Graph.{trial, fedWith, Edge, still, fed, origin, Reach, first, further, silent-resting, silent-step}
+use Rattle.model.proofs.Follow.{stands-start, stands-silent, takes-silent, takes-fed, stands-fed}
+use Rattle.model.specs.inner.Integers.{Inside}
+use Rattle.model.specs.inner.View.{reads, viewAt, literal, laneValue, LegalFlow}
+use Rattle.model.specs.inner.Runs.{resting, RunStands, Follows}
 
 -- with f and x, lane u of the values v becomes what it is in w
 abbrev pub Grants : (lo hi : ℤ) → ℕ → (w v : List ℤ) → (ℤ → ℤ) → ℤ → Type 0

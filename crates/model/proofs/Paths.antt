@@ -6,14 +6,14 @@ use mathlib.Core.Option.{Option, some}
 use Prim.Native.Nat.{ℕ}
 use native.Mathlib.Numerals.{add-one}
 use lib.IntN.{ℤ}
-use Rattle.graph.specs.Graph.{Graph, Path, here, onward, Reached, ExitDistance, NoExit}
+use Rattle.graph.specs.inner.Graph.{Graph, Path, here, onward, Reached, ExitDistance, NoExit}
 use Rattle.model.specs.Language.{Flow}
 use Rattle.model.specs.Machine.{Exit}
 use Rattle.model.specs.Distance.{Distance, NoDistance}
 use Rattle.model.specs.Configuration.{Configuration, Census}
-use Rattle.model.proofs.View.{LegalFlow}
 use Rattle.model.proofs.Graph.{Edge, origin, Reach, first, further}
 use Rattle.model.proofs.Theorems.{Leads, distance-of-paths, none-of-paths, reachable-reach, reach-reachable}
+use Rattle.model.specs.inner.View.{LegalFlow}
 
 abbrev pub configurations : (lo hi : ℤ) → Flow → Graph Configuration (Option Exit)
 configurations lo hi flow = record { start = origin lo hi flow; Edge = Edge lo hi flow; cost = λ e. 1 }
@@ -31,7 +31,7 @@ module _ {lo hi : ℤ} {flow : Flow} where
   reach-of-path here = first
   reach-of-path (onward {n = n} {k = k} {y = y} p x e) = subst (λ (m : ℕ). Reach lo hi flow m y) (sym (e ∙ add-one n)) (further (reach-of-path p) x)
 
-  leads-of-exit : {i : ℕ} {e : Exit} {d : ℕ} → Rattle.graph.specs.Graph.ExitPath (configurations lo hi flow) (Taking i e) d → Leads lo hi flow i e d
+  leads-of-exit : {i : ℕ} {e : Exit} {d : ℕ} → Rattle.graph.specs.inner.Graph.ExitPath (configurations lo hi flow) (Taking i e) d → Leads lo hi flow i e d
   leads-of-exit x = record {
     before = x .before;
     last = x .total ∙ add-one (x .before);
@@ -42,7 +42,7 @@ module _ {lo hi : ℤ} {flow : Flow} where
     edge = subst (λ (o : Option Exit). Edge lo hi flow (x .from) o (x .target)) (x .wanted .1) (x .edge);
   }
 
-  exit-of-leads : {i : ℕ} {e : Exit} {d : ℕ} → Leads lo hi flow i e d → Rattle.graph.specs.Graph.ExitPath (configurations lo hi flow) (Taking i e) d
+  exit-of-leads : {i : ℕ} {e : Exit} {d : ℕ} → Leads lo hi flow i e d → Rattle.graph.specs.inner.Graph.ExitPath (configurations lo hi flow) (Taking i e) d
   exit-of-leads {e = e} p = record {
     from = p .from;
     label = some e;

@@ -12,12 +12,14 @@ use lib.ListN.{length, getD, length-map}
 use lib.Seq.{ext-getD}
 use lib.Dec.{T}
 use Rattle.model.specs.Pattern.{Mark, inside, equal, among, different, rank, mark, pattern}
-use Rattle.model.proofs.Integers.{zarith, lt-out, true-in, true-out, false-out, and-in, and-out, or-in, or-right, Inside}
+use Rattle.model.proofs.Integers.{zarith, lt-out, true-in, true-out, false-out, and-in, and-out, or-in, or-right}
 use Rattle.model.proofs.Lists.{getD-map}
-use Rattle.model.proofs.View.{Term, held, literal, laneValue, term, Known}
+use Rattle.model.proofs.View.{Known}
 use Rattle.model.proofs.Alike.{Alike, alike-sym, alike-trans}
 use Rattle.model.proofs.Side.{place, spread, spreadValue, mark-inside, moved-inside, Side, upper, lower, side}
 use Rattle.model.proofs.Side.{Zone, beyond, within, zone, Tell, far, same, near, tell}
+use Rattle.model.specs.inner.Integers.{Inside}
+use Rattle.model.specs.inner.View.{Term, held, literal, laneValue, term}
 
 pub equal-in : (x y : ℤ) → T (equal x y) → x ≡ y
 equal-in x y h = let (p, q) = and-in (not (ltZ x y)) (not (ltZ y x)) h in omega zarith

@@ -10,12 +10,16 @@ use lib.IntN.{ℤ, pos, ℤ-discrete}
 use lib.ListN.{length}
 use lib.Dec.{T}
 use Rattle.model.specs.Sample.{Near}
-use Rattle.model.proofs.Integers.{true-in, Inside}
-use Rattle.model.proofs.Lists.{All, all-getD}
-use Rattle.model.proofs.View.{Term, held, literal, laneValue, term, Known}
+use Rattle.model.proofs.Integers.{true-in}
+use Rattle.model.proofs.Lists.{all-getD}
+use Rattle.model.proofs.View.{Known}
 use Rattle.model.proofs.Faithful.{Faithful, term-map}
 use Rattle.model.proofs.Alike.{Alike, alike-trans, alike-map, Fits, fits-term}
 use Rattle.model.proofs.Side.{Nearer, near-wider, inside-near, Side, side, Zone, beyond, within, zone, same-less, Tell, far, same, near, tell}
+use Rattle.model.specs.inner.Lists.{All}
+use Rattle.model.specs.inner.Integers.{Inside}
+use Rattle.model.specs.inner.View.{Term, held, literal, laneValue, term}
+use Rattle.model.specs.inner.Runs.{furthest}
 
 -- v holds x, or not
 abbrev pub Absent : List ℤ → ℤ → Type 0
@@ -33,12 +37,6 @@ holds (a ∷ v) x nz = go (ℤ-discrete a x) (holds v x nz)
     go (yes e) r = inl (zero, e)
     go (no f) (inl (i, e)) = inl (suc i, e)
     go (no f) (inr g) = inr (absent f g)
-
--- the furthest of m and the numbers of w beside those of v that lie before x, as a loop finds it
-abbrev pub furthest : (ℤ → ℤ → Bool) → (m x : ℤ) → List ℤ → List ℤ → ℤ
-furthest less m x [] w = m
-furthest less m x (a ∷ v) [] = m
-furthest less m x (a ∷ v) (b ∷ w) = furthest less (cond (less a x && less m b) b m) x v w
 
 module _ {lo hi : ℤ} (S : Side lo hi) where
   open Side S using (out, back, less, next, lt-i, lt-o, tr-i, fa-i, eq-i, next-is, edge, edge-in, inner, order, fits, keeps, near-next)

@@ -13,7 +13,8 @@ use lib.Seq.{getD-set-same, getD-set-other, set-set, set-comm}
 use Rattle.model.specs.Language.{Flow}
 use Rattle.model.specs.Machine.{State, goTo, hasRecord, step, start, steps, run}
 use Rattle.model.proofs.Lists.{getD-like}
-use Rattle.model.proofs.View.{View, reads, sets, tests, goes, stops, viewAt, term, onTape, taken, stepView, step-view}
+use Rattle.model.proofs.View.{onTape, taken, stepView, step-view}
+use Rattle.model.specs.inner.View.{View, reads, sets, tests, goes, stops, viewAt, term}
 
 pub steps-end : (flow : Flow) (n : ℕ) (s : State) → steps flow (suc n) s ≡ step flow (steps flow n s)
 steps-end flow zero s = refl

@@ -11,10 +11,12 @@ use lib.Signed.{ltZ}
 use lib.Dec.{T}
 use Rattle.model.specs.Pattern.{Mark, inside, above, below, rank, mark}
 use Rattle.model.specs.Sample.{Near}
-use Rattle.model.proofs.Integers.{zarith, up, dn, suc-is, pred-is, add-pos, sub-pos, same-test, true-out}
-use Rattle.model.proofs.Integers.{false-out, lt-in, lt-out, lt-true, lt-false, eq-in, eq-out, Inside}
-use Rattle.model.proofs.View.{Term, term, Known}
+use Rattle.model.proofs.Integers.{zarith, suc-is, pred-is, add-pos, sub-pos, same-test, true-out}
+use Rattle.model.proofs.Integers.{false-out, lt-in, lt-out, lt-true, lt-false, eq-in, eq-out}
+use Rattle.model.proofs.View.{Known}
 use Rattle.model.proofs.Alike.{Alike, Fits}
+use Rattle.model.specs.inner.Integers.{up, dn, Inside}
+use Rattle.model.specs.inner.View.{Term, term}
 
 -- the spread of a pattern, and where it puts a value
 unfoldable pub place : (lo hi : ℤ) → Mark → ℤ

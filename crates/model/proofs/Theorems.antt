@@ -12,11 +12,11 @@ use Rattle.model.specs.Distance.{Takes, Distance, NoDistance}
 use Rattle.model.specs.Pattern.{Mark}
 use Rattle.model.specs.Configuration.{Configuration, configuration, Reachable}
 use Rattle.model.specs.Sample.{Sample}
-use Rattle.model.proofs.View.{LegalFlow}
 use Rattle.model.proofs.Runs.{fair-run}
 use Rattle.model.proofs.Graph.{Edge, Reach, reach-run, simulate}
 use Rattle.model.proofs.Follow.{stands-sample}
 use Rattle.model.proofs.Path.{Real, extend, realise}
+use Rattle.model.specs.inner.View.{LegalFlow}
 
 -- a distance is one number, and excludes that there is none
 pub distance-unique : (flow : Flow) (i : ℕ) (e : Exit) (d d′ : ℕ) → Distance flow i e d → Distance flow i e d′ → d ≡ d′

@@ -7,48 +7,16 @@ use mathlib.Core.Logic.{inl}
 use mathlib.Core.Option.{Option, none, some}
 use Prim.Native.Nat.{ℕ, _-_, _<_, _≤_}
 use native.Mathlib.Omega.{arith}
-use lib.IntN.{ℤ, pos}
+use lib.IntN.{ℤ}
 use lib.Signed.{ltZ}
 use lib.ListN.{getD, set}
 use Rattle.model.specs.Language.{Instruction, read, put, copy, const, less, over, under, nop, stop}
 use Rattle.model.specs.Language.{Flow, instruction, Field, tape, output, variable, target, constant, fields, constants}
 use Rattle.model.specs.Machine.{State, goTo, readFrom, stepBy, Exit, exitIf, hasRecord, exitBy, step, exitOf}
 use Rattle.graph.specs.Lists.{In}
-use Rattle.model.proofs.Integers.{Inside}
-use Rattle.model.proofs.Lists.{All}
-
-pub data Term : Type 0 where
-  held : ℕ → Term
-  literal : ℤ → Term
-
-pub data View : Type 0 where
-  reads : (a v p m : ℕ) → View
-  sets : (t : Term) (v n : ℕ) → View
-  tests : (x y : Term) (p m : ℕ) → View
-  goes : (n : ℕ) → View
-  stops : View
-
-abbrev pub view : Instruction → View
-view (read a v p m) = reads (a - 1) (v - 1) p m
-view (put v y n) = goes n
-view (copy u v n) = sets (held (u - 1)) (v - 1) n
-view (const c v n) = sets (literal c) (v - 1) n
-view (less u v p m) = tests (held (u - 1)) (held (v - 1)) p m
-view (over c v p m) = tests (literal c) (held (v - 1)) p m
-view (under v c p m) = tests (held (v - 1)) (literal c) p m
-view (nop n) = goes n
-view stop = stops
-
-abbrev pub viewAt : Flow → ℕ → View
-viewAt flow i = view (instruction flow i)
-
--- the value in a lane, 0 past the end; a term's value; what is left of a tape
-abbrev pub laneValue : List ℤ → ℕ → ℤ
-laneValue l i = getD l i (pos 0)
-
-abbrev pub term : List ℤ → Term → ℤ
-term l (held u) = laneValue l u
-term l (literal c) = c
+use Rattle.model.specs.inner.Lists.{All}
+use Rattle.model.specs.inner.Integers.{Inside}
+use Rattle.model.specs.inner.View.{Term, held, literal, View, reads, sets, tests, goes, stops, view, viewAt, term, Numbered, LegalFlow, Targeted}
 
 abbrev pub onTape : State → ℕ → List ℤ
 onTape s a = getD (s .left) a []
@@ -107,19 +75,6 @@ step-view flow s = step-by (instruction flow (s .next)) s
 pub exit-view : (flow : Flow) (s : State) → exitOf flow s ≡ exitView (viewAt flow (s .next)) s
 exit-view flow s = exit-by (instruction flow (s .next)) s
 
--- ---- what the theory asks of a flow: it names its own tapes and variables, counted from 1, and its constants and 0 lie from lo to hi
-abbrev pub Numbered : Flow → Field → Type 0
-Numbered flow (tape a) = (0 < a) × (a ≤ flow .tapes)
-Numbered flow (output y) = Unit {0}
-Numbered flow (variable v) = (0 < v) × (v ≤ flow .variables)
-Numbered flow (target n) = Unit {0}
-Numbered flow (constant c) = Unit {0}
-
-pub record LegalFlow (lo hi : ℤ) (flow : Flow) : Type 0 where
-  pub zero : Inside lo hi (pos 0)
-  pub numbers : (i : ℕ) → All (Numbered flow) (fields (instruction flow i))
-  pub constants-inside : (i : ℕ) (c : ℤ) → In c (constants (fields (instruction flow i))) → Inside lo hi c
-
 -- ---- where a view goes on: what holds of every target among the fields holds of its targets
 abbrev pub OnTarget : (ℕ → Type 0) → Field → Type 0
 OnTarget P (tape a) = Unit {0}
@@ -127,13 +82,6 @@ OnTarget P (output y) = Unit {0}
 OnTarget P (variable v) = Unit {0}
 OnTarget P (target n) = P n
 OnTarget P (constant c) = Unit {0}
-
-abbrev pub Targeted : (ℕ → Type 0) → View → Type 0
-Targeted P (reads a v p m) = P p × P m
-Targeted P (sets t v n) = P n
-Targeted P (tests x y p m) = P p × P m
-Targeted P (goes n) = P n
-Targeted P stops = Unit {0}
 
 pub targeted : (P : ℕ → Type 0) (i : Instruction) → All (OnTarget P) (fields i) → Targeted P (view i)
 targeted P (read a v p m) (_, (_, (h, (k, _)))) = (h, k)

@@ -8,7 +8,7 @@ ghost use Rattle.text.specs.Write.{decimal, ended};
 ghost use Rattle.flow.specs.Limits.{maxInstructions};
 ghost use Rattle.interpreter.specs.Run.{written};
 ghost use Rattle.render.specs.Report.{distanceText, exitLine, exitLines, exitLinesFrom, wordLine, reportText, Printed};
-ghost use Rattle.render.specs.Inner.{Put};
+ghost use Rattle.render.specs.inner.Writing.{Put};
 use cells::Cell;
 use flow::Flow;
 use tape_maker::ReportAnswer;

@@ -15,26 +15,27 @@ use Rattle.model.specs.Distance.{Distance}
 use Rattle.model.proofs.Integers.{zarith}
 use Rattle.flow.specs.Limits.{maxInstructions}
 use Rattle.flow.specs.declared.Refusal.the-variants.{ShortRow}
-use Rattle.configuration.specs.Op.{opOf}
-use Rattle.configuration.specs.Pattern.{Width}
+use Rattle.configuration.specs.inner.Op.{opOf}
+use Rattle.configuration.specs.inner.Pattern.{Width}
 use Rattle.configuration.specs.declared.Op.{Op}
-use Rattle.configuration.proofs.Steps.{FlowFits}
 use Rattle.configuration.proofs.Fitting.{fit-legal, legal-limited}
-use Rattle.cells.specs.Columns.{placeField, patternField, distanceField, parentField, bucketField, wayField, column, columnsOf, Only}
-use Rattle.cells.specs.Entries.{Entries, entries, entriesOf, distanceOf}
+use Rattle.configuration.specs.inner.Fits.{FlowFits}
+use Rattle.cells.specs.inner.Columns.{placeField, patternField, distanceField, parentField, bucketField, wayField, column, columnsOf, Only}
+use Rattle.cells.specs.inner.Entries.{Entries, entries, entriesOf, distanceOf}
 use Rattle.cells.proofs.Fields.{length-column, word-column-same}
-use Rattle.cells.specs.Way.{Traced}
+use Rattle.cells.specs.inner.Way.{Traced}
 use Rattle.cells.specs.declared.Found.{Found}
 use Rattle.cells.specs.declared.Found.the-variants.{At, Nothing}
-use Rattle.table.specs.Table.{Complete}
-use Rattle.table.specs.Passes.{blank, Prepared}
-use Rattle.table.proofs.Says.{found-distance, found-stored, found-nothing, past-plain}
-use Rattle.sample.specs.Sampling.{Course, course, CourseLeads, endOf, Ends, WrittenBy, Tabled, NearestIs}
-use Rattle.sample.specs.Picking.{bare, Written, PickedIs}
+use Rattle.search_table.specs.inner.Table.{Complete}
+use Rattle.search_table.specs.inner.Passes.{blank, Prepared}
+use Rattle.search_table.proofs.Says.{found-distance, found-stored, found-nothing, past-plain}
+use Rattle.sample.specs.inner.Sampling.{Course, course, CourseLeads, endOf, Ends, WrittenBy, Tabled, NearestIs}
+use Rattle.sample.specs.inner.Picking.{PickedIs}
 use Rattle.sample.specs.declared.SampleEnd.{SampleEnd}
 use Rattle.sample.specs.declared.SampleEnd.the-variants.{Taken, Never, Refused}
 use Rattle.sample.specs.declared.SampleAnswer.{SampleAnswer}
-use Rattle.sample.proofs.Given.{traced-leads, found-ends}
+use Rattle.sample.proofs.WayToEntry.{traced-leads, found-ends}
+use Rattle.sample.specs.Written.{bare, Written}
 
 -- ---- a way written into the cells leaves the entries
 module _ (c c₁ : List (List ℕ)) (only : Only wayField c c₁) where

@@ -6,17 +6,18 @@ ghost use Prim.Native.Nat.{ℕ, suc, _≤_, _<_};
 ghost use lib.ListN.{length, getD};
 ghost use Rattle.model.specs.Language.{Flow as FlowOf};
 ghost use Rattle.model.specs.Machine.{exitIf};
-ghost use Rattle.configuration.specs.Place.{words};
-ghost use Rattle.configuration.specs.Pattern.{Width, laneOf, valueOf};
-ghost use Rattle.configuration.proofs.Span.{real};
-ghost use Rattle.tapes.specs.Moves.{Movable};
-ghost use Rattle.tapes.specs.Reading.{Ready};
-ghost use Rattle.cells.specs.Columns.{placeField, patternField, wayField, column, wordColumn, columnsOf};
-ghost use Rattle.cells.specs.Entries.{entriesOf};
-ghost use Rattle.table.specs.Way.{placeOn, Passable, isRead, countedOf, readsOn};
-ghost use Rattle.sample.specs.Steps.{wishOf, takesRecord, termIn, quietWalk, walkTo, rowTo, lastRow, OpFits, Low};
-ghost use Rattle.sample.specs.Sampling.{courseIn, CourseLeads, Ends, Roomy, Following, WrittenBy, Tabled, NearestIs};
-ghost use Rattle.sample.specs.Picking.{bare, PickedIs};
+ghost use Rattle.configuration.specs.inner.Place.{words};
+ghost use Rattle.configuration.specs.inner.Pattern.{Width, laneOf, valueOf};
+ghost use Rattle.configuration.specs.inner.Fits.{real};
+ghost use Rattle.sample_row.specs.inner.Moves.{Movable};
+ghost use Rattle.sample_row.specs.inner.Reading.{Ready};
+ghost use Rattle.cells.specs.inner.Columns.{placeField, patternField, wayField, column, wordColumn, columnsOf};
+ghost use Rattle.cells.specs.inner.Entries.{entriesOf};
+ghost use Rattle.search_table.specs.inner.Way.{placeOn, Passable, isRead, countedOf, readsOn};
+ghost use Rattle.sample.specs.inner.Steps.{wishOf, takesRecord, termIn, quietWalk, walkTo, rowTo, lastRow, OpFits, Low};
+ghost use Rattle.sample.specs.inner.Sampling.{courseIn, CourseLeads, Ends, Roomy, Following, WrittenBy, Tabled, NearestIs};
+ghost use Rattle.sample.specs.inner.Picking.{PickedIs};
+ghost use Rattle.sample.specs.Written.{bare};
 use cells::Cell;
 use cells::Found;
 use configuration::Action;
@@ -26,7 +27,7 @@ use configuration::pattern;
 use configuration::place;
 use flow::Flow;
 use flow::Refusal;
-use tapes::Walk;
+use sample_row::Walk;
 
 // How a wish for a sample ends: with a sample, with none, since no tapes take the exit, or with a refusal.
 pub enum SampleEnd {
@@ -120,7 +121,7 @@ fn takes_record(op: Op, next: Words) -> bool
     ensures { λ r. ⌜ r ≡ takesRecord op next ⌝ }
 {
     let action = op.action;
-    if table::is_read(action) {
+    if search_table::is_read(action) {
         let ended = place::ended(next.place, op.tape);
         return !ended;
     }
@@ -139,7 +140,7 @@ fn step(row: &mut [i32], walk: Walk, op: Op, next: Words, w: u64, lo: i32, hi: i
         let wish = wish_of(next.pattern, w, lo);
         let a = op.tape as usize;
         let v = op.variable as usize;
-        return tapes::read_one(row, walk, lo, hi, wish, a, v);
+        return sample_row::read_one(row, walk, lo, hi, wish, a, v);
     }
     quiet(walk, op, lo)
 }
@@ -151,13 +152,13 @@ fn last_read(row: &mut [i32], walk: Walk, op: Op, exit: bool, lo: i32, hi: i32)
     ensures { λ _. ⌜ now (row .exit) ≡ lastRow lo hi op exit walk (now (row .entry)) ⌝ }
 {
     let action = op.action;
-    if table::is_read(action) {
+    if search_table::is_read(action) {
         if exit {
             let mut wish = walk.values;
             let a = op.tape as usize;
             let v = op.variable as usize;
             wish[v] = 0;
-            tapes::read_one(row, walk, lo, hi, wish, a, v);
+            sample_row::read_one(row, walk, lo, hi, wish, a, v);
         }
     }
 }
@@ -169,7 +170,7 @@ fn words_on(cells: &[[u32; Cell::WORDS]], t: usize) -> Words
         (getD (wordColumn patternField (now (cells .entry))) (getD (column wayField (now (cells .entry))) t 0) 0) ⌝ }
 {
     let k = cells::wide(cells::get(cells, t, Cell::WAY));
-    table::words_at(cells, k)
+    search_table::words_at(cells, k)
 }
 
 // How many records of each tape the steps of a way take, with the step by which op takes the exit, p if `exit`, at its end.
@@ -183,8 +184,8 @@ fn sizes_of(
     requires { ⌜ Passable (wordColumn placeField (now cells)) (column wayField (now cells)) steps ⌝ }
     ensures { λ r. ⌜ r ≡ countedOf (readsOn ops (wordColumn placeField (now (cells .entry))) (column wayField (now (cells .entry))) steps) op exit ⌝ }
 {
-    let counts = table::reads(cells, ops, steps);
-    let all = table::counted(counts, op, exit);
+    let counts = search_table::reads(cells, ops, steps);
+    let all = search_table::counted(counts, op, exit);
     let a = cells::wide(all[0]);
     let b = cells::wide(all[1]);
     let c = cells::wide(all[2]);
@@ -209,11 +210,11 @@ fn write_steps(
         → Following (courseIn (now (cells .entry)) steps ops w lo hi) flow sizes
         (now (row .entry)) steps r (now (row .exit))) ⌝ }
 {
-    let mut walk = tapes::first_walk(sizes);
+    let mut walk = sample_row::first_walk(sizes);
     let mut t = 0;
     while t < steps {
         let here = words_on(cells, t);
-        let i = table::index(here.place);
+        let i = search_table::index(here.place);
         let op = ops[i];
         t += 1;
         let next = words_on(cells, t);
@@ -242,7 +243,7 @@ fn write_sample(
         → WrittenBy (courseIn (now (cells .entry)) steps ops w lo hi) flow exit
         (now (row .entry)) (now (row .exit)) r) ⌝ }
 {
-    let i = table::index(table::place_on(cells, steps));
+    let i = search_table::index(search_table::place_on(cells, steps));
     let op = ops[i];
     let sizes = sizes_of(cells, steps, ops, op, exit);
     let walk = write_steps(cells, steps, ops, w, lo, hi, sizes, row);
@@ -322,7 +323,7 @@ pub fn sample_for(
 {
     let at = instruction - 1;
     let op = ops[at];
-    let found = table::nearest(cells, n, op, w, instruction, exit);
+    let found = search_table::nearest(cells, n, op, w, instruction, exit);
     match found {
         Found::Nothing => without(SampleEnd::Never),
         Found::At(k) => sample_at(cells, n, ops, w, lo, hi, tapes, k, exit, row),

@@ -11,39 +11,39 @@ use native.Mathlib.Omega.{arith}
 use lib.IntN.{ℤ}
 use lib.ListN.{length, getD, List·getD-eq-default}
 use Rattle.graph.specs.Lists.{MoreThan}
-use Rattle.graph.specs.Graph.{Reached}
-use Rattle.graph.proofs.Table.{Table, Held, Extends, Pushed}
+use Rattle.graph.specs.inner.Graph.{Reached}
 use Rattle.graph.proofs.Complete.{entry-induction, dist-small}
-use Rattle.graph.proofs.Search.{Searching, search-start, push-one, seen, advance, finish}
+use Rattle.graph.proofs.Search.{search-start, push-one, seen, advance, finish}
 use Rattle.graph.proofs.Refusal.{start-outnumber, full-outnumber}
+use Rattle.graph.specs.inner.Table.{Table, Held, Extends, Pushed, Searching}
 use Rattle.model.specs.Language.{Flow, stop, instruction}
 use Rattle.model.specs.Machine.{Exit}
-use Rattle.configuration.specs.Place.{atOf}
-use Rattle.configuration.specs.Op.{opOf, readOp, stopOp}
-use Rattle.configuration.specs.Step.{startOf}
-use Rattle.configuration.specs.Graph.{WordEdge, opAt}
+use Rattle.configuration.specs.inner.Place.{atOf}
+use Rattle.configuration.specs.inner.Op.{opOf, readOp, stopOp}
+use Rattle.configuration.specs.inner.Step.{startOf}
+use Rattle.configuration.specs.inner.Graph.{WordEdge, opAt}
 use Rattle.configuration.specs.declared.Words.{Words}
 use Rattle.configuration.specs.declared.Op.{Op}
 use Rattle.configuration.specs.declared.Action.the-variants.{Read}
-use Rattle.configuration.proofs.Steps.{FlowFits, ProperWords}
 use Rattle.configuration.proofs.Edges.{read-lane, edge-proper}
 use Rattle.configuration.proofs.Reaches.{start-proper}
+use Rattle.configuration.specs.inner.Fits.{FlowFits, ProperWords}
 use Rattle.cells.specs.Cells.{mostCells, cellsOf}
-use Rattle.cells.specs.Columns.{marksField, column, Rows}
-use Rattle.cells.specs.Index.{node}
-use Rattle.cells.specs.Entries.{entriesOf, distanceOf, Begun}
-use Rattle.cells.specs.Marks.{isMarked}
+use Rattle.cells.specs.inner.Columns.{marksField, column, Rows}
+use Rattle.cells.specs.inner.Index.{node}
+use Rattle.cells.specs.inner.Entries.{entriesOf, distanceOf, Begun}
+use Rattle.cells.specs.inner.Marks.{isMarked}
 use Rattle.cells.proofs.Fields.{length-column}
-use Rattle.table.specs.Table.{wordGraph, wordsAt, tableOf}
-use Rattle.growth.specs.Growth.{Grows, none, more, Outgrown, Kept}
-use Rattle.growth.specs.Fan.{Marked, LeadsTo, FanFits, GrownIs}
-use Rattle.table.specs.Passes.{Prepared}
-use Rattle.search.specs.Search.{ExpandedIs, Exploring, Finished, SearchedIs}
+use Rattle.search_table.specs.inner.Table.{wordGraph, wordsAt, tableOf}
+use Rattle.search_visit.specs.inner.Visit.{Grows, none, more, Outgrown, Kept}
+use Rattle.search_visit.specs.inner.Fan.{Marked, LeadsTo, FanFits, GrownIs}
+use Rattle.search_table.specs.inner.Passes.{Prepared}
+use Rattle.search.specs.inner.Search.{ExpandedIs, Exploring, Finished, SearchedIs}
 use Rattle.search.specs.declared.Searched.{Searched}
-use Rattle.growth.specs.declared.Grown.{Grown}
-use Rattle.growth.proofs.Growing.{grows-extends}
-use Rattle.growth.proofs.Visiting.{node-words}
-use Rattle.growth.proofs.Marks.{true-false}
+use Rattle.search_visit.specs.declared.Grown.{Grown}
+use Rattle.search_visit.proofs.Growing.{grows-extends}
+use Rattle.search_visit.proofs.Visiting.{node-words}
+use Rattle.search_visit.proofs.Marks.{true-false}
 
 -- ---- the instruction of a place, as the walk picks it
 pub either : {A B C : Type 0} → (A → C) → (B → C) → A ⊎ B → C

@@ -2,19 +2,19 @@
 ghost use mathlib.Core.Path.{_≡_};
 ghost use Prim.Native.Nat.{_<_};
 ghost use lib.ListN.{getD};
-ghost use Rattle.configuration.specs.Step.{startOf};
+ghost use Rattle.configuration.specs.inner.Step.{startOf};
 ghost use Rattle.cells.specs.Cells.{mostCells, cellsOf};
-ghost use Rattle.cells.specs.Columns.{distanceField, column, columnsOf};
-ghost use Rattle.cells.specs.Entries.{entriesOf};
-ghost use Rattle.table.specs.Table.{wordsAt};
-ghost use Rattle.growth.specs.Fan.{SearchReady, FanFits};
-ghost use Rattle.search.specs.Search.{Subject, ExpandedIs, Exploring, SearchedIs};
+ghost use Rattle.cells.specs.inner.Columns.{distanceField, column, columnsOf};
+ghost use Rattle.cells.specs.inner.Entries.{entriesOf};
+ghost use Rattle.search_table.specs.inner.Table.{wordsAt};
+ghost use Rattle.search_visit.specs.inner.Fan.{SearchReady, FanFits};
+ghost use Rattle.search.specs.inner.Search.{Subject, ExpandedIs, Exploring, SearchedIs};
 use cells::Cell;
 use configuration::Op;
 use configuration::Words;
 use configuration::place;
 use flow::Flow;
-use growth::Grown;
+use search_visit::Grown;
 
 // What a search answers: the number of entries.
 pub enum Searched {
@@ -40,15 +40,15 @@ fn expand(
         (columnsOf (now (cells .exit)))
         count size k r ⌝ }
 {
-    let x = table::words_at(cells, k);
+    let x = search_table::words_at(cells, k);
     let d = cells::get(cells, k, Cell::DISTANCE) + 1;
-    let g = growth::fan(cells, count, size, d, k, op, w, x);
+    let g = search_visit::fan(cells, count, size, d, k, op, w, x);
     let Grown::To(n) = g else {
         return Grown::Full;
     };
     let y = configuration::next(op, w, x);
-    let s = growth::visit(cells, n, size, d, k, y);
-    growth::after_visit(s)
+    let s = search_visit::visit(cells, n, size, d, k, y);
+    search_visit::after_visit(s)
 }
 
 // Expands entries until none is left or no cell is. Instruction number i is ops[i - 1]; a number that names none stops.

@@ -17,28 +17,28 @@ use Rattle.flow.specs.Legal.{Legal, head}
 use Rattle.flow.specs.declared.Refusal.{Refusal}
 use Rattle.flow.specs.declared.Refusal.the-variants.{TooFewCells}
 use Rattle.flow.specs.declared.Flow.{Flow as FlowRows}
-use Rattle.configuration.specs.Op.{opOf}
-use Rattle.configuration.specs.Pattern.{Width}
-use Rattle.configuration.specs.Place.{configurationOf}
-use Rattle.configuration.specs.Step.{startOf}
+use Rattle.configuration.specs.inner.Op.{opOf}
+use Rattle.configuration.specs.inner.Pattern.{Width}
+use Rattle.configuration.specs.inner.Place.{configurationOf}
+use Rattle.configuration.specs.inner.Step.{startOf}
 use Rattle.configuration.specs.declared.Op.{Op}
-use Rattle.configuration.proofs.Steps.{FlowFits}
 use Rattle.configuration.proofs.Fitting.{fit-legal}
 use Rattle.configuration.proofs.Prepared.{legal-bytes}
+use Rattle.configuration.specs.inner.Fits.{FlowFits}
 use Rattle.cells.specs.Cells.{cellWords, cellsOf, zeroed}
-use Rattle.cells.specs.Columns.{Rows}
-use Rattle.cells.specs.Entries.{entriesOf}
-use Rattle.table.specs.Table.{wordsAt}
-use Rattle.table.specs.Passes.{blank, Prepared, Walkable, ExitsOf}
-use Rattle.table.specs.declared.Distances.{Distances}
-use Rattle.table.proofs.Words.{outnumbered, complete-census, length-complete}
-use Rattle.table.proofs.Standing.{complete-walkable}
-use Rattle.table.proofs.Says.{column-says}
-use Rattle.search.specs.Search.{Subject, Finished, SearchedIs}
+use Rattle.cells.specs.inner.Columns.{Rows}
+use Rattle.cells.specs.inner.Entries.{entriesOf}
+use Rattle.search_table.specs.inner.Table.{wordsAt}
+use Rattle.search_table.specs.inner.Passes.{blank, Prepared, Walkable, ExitsOf}
+use Rattle.search_table.specs.declared.Distances.{Distances}
+use Rattle.search_table.proofs.Words.{outnumbered, complete-census, length-complete}
+use Rattle.search_table.proofs.ReachedPlaces.{complete-walkable}
+use Rattle.search_table.proofs.Says.{column-says}
+use Rattle.search.specs.inner.Search.{Subject, Finished, SearchedIs}
 use Rattle.search.specs.declared.Searched as Ends
 use Rattle.search.specs.declared.Searched.the-variants.{Done, Full}
 use Rattle.tape_maker.specs.Report.{Outnumber, Count, Reported, refusal, FlowReport, ReportOf, ReportIs}
-use Rattle.tape_maker.specs.Inner.{AllFitBytes, Each, GivenIs, Planned, reportRefused}
+use Rattle.tape_maker.specs.inner.Plan.{AllFitBytes, Each, GivenIs, Planned, reportRefused}
 use Rattle.tape_maker.specs.declared.ReportEnd.{ReportEnd}
 use Rattle.tape_maker.specs.declared.ReportAnswer.{ReportAnswer}
 use Rattle.tape_maker.specs.declared.planning.Plan.{Plan}

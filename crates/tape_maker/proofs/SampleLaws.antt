@@ -15,19 +15,20 @@ use Rattle.flow.specs.declared.Refusal.the-variants.{NoSuchExit, TooFewCells}
 use Rattle.flow.specs.declared.Instruction.{Instruction as Row}
 use Rattle.flow.specs.declared.Flow.{Flow as FlowRows}
 use Rattle.cells.specs.Cells.{cellsOf, zeroed}
-use Rattle.cells.specs.Columns.{nextField, columnsOf}
-use Rattle.cells.specs.Entries.{entriesOf}
+use Rattle.cells.specs.inner.Columns.{nextField, columnsOf}
+use Rattle.cells.specs.inner.Entries.{entriesOf}
 use Rattle.cells.proofs.Fields.{length-column}
-use Rattle.table.proofs.Way.{complete-parents}
-use Rattle.search.specs.Search.{Finished}
-use Rattle.sample.specs.Sampling.{Tabled}
-use Rattle.sample.specs.Picking.{bare, PickedIs}
+use Rattle.search_table.proofs.Way.{complete-parents}
+use Rattle.search.specs.inner.Search.{Finished}
+use Rattle.sample.specs.inner.Sampling.{Tabled}
+use Rattle.sample.specs.inner.Picking.{PickedIs}
 use Rattle.sample.specs.declared.SampleEnd.{SampleEnd}
 use Rattle.sample.specs.declared.SampleEnd.the-variants.{Taken, Never, Refused}
 use Rattle.sample.specs.declared.SampleAnswer.{SampleAnswer}
+use Rattle.sample.specs.Written.{bare}
 use Rattle.tape_maker.specs.Report.{Outnumber}
 use Rattle.tape_maker.specs.Sample.{Wanted, Suffices, Reason, no-such-exit, too-few-cells, short-row, Answered, SampleOf, SampleIs}
-use Rattle.tape_maker.specs.Inner.{exitsAt, exitsIn, Planned, sampleRefused}
+use Rattle.tape_maker.specs.inner.Plan.{exitsAt, exitsIn, Planned, sampleRefused}
 use Rattle.tape_maker.specs.declared.planning.Plan.{Plan}
 use Rattle.tape_maker.proofs.Tables.{exits-held}
 use Rattle.tape_maker.proofs.ReportLaws.{finished-walkable, finished-count, zeroed-after}

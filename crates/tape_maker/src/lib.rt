@@ -9,7 +9,7 @@ ghost use mathlib.Core.Path.{_≡_};
 ghost use mathlib.Core.Bool.{true};
 ghost use lib.ListN.{length};
 ghost use Rattle.cells.specs.Cells.{zeroed};
-ghost use Rattle.tapes.specs.Part.{spanOf, IsPart};
+ghost use Rattle.sample_row.specs.Part.{spanOf, IsPart};
 ghost use Rattle.tape_maker.specs.Run.{requested, RunIs};
 ghost use Rattle.tape_maker.specs.Report.{ReportIs};
 ghost use Rattle.tape_maker.specs.Sample.{SampleIs};
@@ -101,5 +101,5 @@ pub fn sample(
 pub fn tape<'a>(row: &'a [i32], lengths: &[usize], number: usize) -> &'a [i32]
     ensures { λ r. ⌜ IsPart (spanOf (now (lengths .entry)) number (length (now (row .entry)))) (now (row .entry)) (row .entry .ptr) (now r) (r .ptr) ⌝ }
 {
-    tapes::tape_records(row, lengths, number)
+    sample_row::tape_records(row, lengths, number)
 }

@@ -9,7 +9,7 @@ ghost use Rattle.flow.specs.Legal.{Legal};
 ghost use Rattle.flow.specs.Read.{readFlow};
 ghost use Rattle.cells.specs.Cells.{cellsOf};
 ghost use Rattle.tape_maker.specs.Report.{refusal, FlowReport, ReportOf};
-ghost use Rattle.tape_maker.specs.Inner.{reportRefused, exitsIn, Each, GivenIs};
+ghost use Rattle.tape_maker.specs.inner.Plan.{reportRefused, exitsIn, Each, GivenIs};
 use crate::ReportAnswer;
 use crate::ReportEnd;
 use crate::planning;
@@ -20,7 +20,7 @@ use flow::Instruction;
 use flow::Refusal;
 use flow::words;
 use search::Searched;
-use table::Distances;
+use search_table::Distances;
 
 // Whether a report was refused.
 pub fn is_refusal(end: ReportEnd) -> bool
@@ -106,7 +106,7 @@ fn report_flow(flow: Flow, cells: &mut [[u32; Cell::WORDS]]) -> ReportAnswer
     match found {
         Searched::Full => report_refused(Refusal::TooFewCells),
         Searched::Done(n) => {
-            let d = table::exits(cells, n, ops, w);
+            let d = search_table::exits(cells, n, ops, w);
             let instructions = flow.instructions;
             let count = flow.count;
             given(instructions, count, n, d)

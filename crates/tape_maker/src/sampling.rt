@@ -8,7 +8,7 @@ ghost use Rattle.flow.specs.Legal.{Legal};
 ghost use Rattle.flow.specs.Read.{readFlow};
 ghost use Rattle.cells.specs.Cells.{cellsOf};
 ghost use Rattle.tape_maker.specs.Sample.{Answered, SampleOf};
-ghost use Rattle.tape_maker.specs.Inner.{sampleRefused, exitsAt};
+ghost use Rattle.tape_maker.specs.inner.Plan.{sampleRefused, exitsAt};
 use crate::planning;
 use crate::reporting;
 use cells::Cell;

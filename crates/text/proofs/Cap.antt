@@ -8,7 +8,7 @@ use native.Mathlib.Decide.{decLe}
 use native.Mathlib.Omega.{arith}
 use lib.IntN.{ℤ}
 use Rattle.text.specs.declared.Number.the-variants.{Value, Bad}
-use Rattle.text.specs.Capped.{capped, cappedNumber}
+use Rattle.text.specs.inner.Capped.{capped, cappedNumber}
 
 pub test-cut : (test : ℕ → Bool) (out : Bool) (m n : ℕ) → ((k : ℕ) → m ≤ k → test k ≡ out) → test (min n m) ≡ test n
 test-cut test out m n beyond = by (decLe n m)

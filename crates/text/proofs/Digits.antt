@@ -19,7 +19,7 @@ use mir.Facts.{toZ-ofZ}
 use Rattle.text.specs.declared.Number.{Number}
 use Rattle.text.specs.declared.Number.the-variants.{Value, Bad}
 use Rattle.text.specs.Number.{isDigit, digitsAfter, natural, negative, numeral}
-use Rattle.text.specs.Capped.{cap, capped, cappedNumber}
+use Rattle.text.specs.inner.Capped.{cap, capped, cappedNumber}
 use Rattle.text.proofs.Cap.{bad-no-value}
 
 -- the code's answer on a size

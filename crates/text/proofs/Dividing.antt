@@ -8,9 +8,10 @@ use native.Mathlib.Numerals.{add-one}
 use native.Mathlib.Omega.{arith}
 use lib.ListN.{length, getD, set, take, drop, length-drop, List·getD-eq-default}
 use lib.Seq.{drop-drop, getD-drop, getD-set-same, getD-set-other}
-use Rattle.text.specs.Split.{split, until}
-use Rattle.text.specs.Divided.{kept, begins, Between, Divided}
+use Rattle.text.specs.Split.{split}
+use Rattle.text.specs.inner.Divided.{kept, begins, Between, Divided}
 use Rattle.text.proofs.Parts.{fields-at, fields-at-last, field-here}
+use Rattle.text.specs.inner.Divided.{until}
 
 pub record Passed (line : List ℕ) (count : ℕ) (ends : List ℕ) (at : ℕ) : Type 0 where
   pub inside : at ≤ length line

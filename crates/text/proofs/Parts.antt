@@ -12,7 +12,8 @@ use borrow.Author.Tests.{eq-eqb, ne-eqb}
 use lib.Dec.{eqb}
 use lib.ListN.{length, getD, take, drop, length-drop, drop-of-length-le}
 use lib.Seq.{drop-cons, drop-drop, take-all}
-use Rattle.text.specs.Split.{lead, parts, lines, split, until}
+use Rattle.text.specs.Split.{lead, parts, lines, split}
+use Rattle.text.specs.inner.Divided.{until}
 
 -- ---- the bytes before the first c
 module _ (c : ℕ) (s : List ℕ) (i : ℕ) where

@@ -2,7 +2,7 @@
 -- no further line; the fields of a line are parted by byte 44, the comma. Bytes are numbers below 256.
 use mathlib.Core.Bool.{Bool, true, false, cond, _&&_}
 use mathlib.Core.List.{List, [], _∷_}
-use Prim.Native.Nat.{ℕ, suc}
+use Prim.Native.Nat.{ℕ}
 use lib.Dec.{eqb}
 
 -- the byte x in front of the first part
@@ -22,11 +22,6 @@ lines text = parts 10 [] text
 -- the fields of a line: one more than it has commas
 unfoldable pub split : List ℕ → List (List ℕ)
 split line = parts 44 ([] ∷ []) line
-
--- how many bytes stand before the first byte c, or in all where there is none
-unfoldable pub until : ℕ → List ℕ → ℕ
-until c [] = 0
-until c (x ∷ xs) = cond (eqb x c) 0 (suc (until c xs))
 
 -- whether two words are the same
 unfoldable pub sameWord : List ℕ → List ℕ → Bool

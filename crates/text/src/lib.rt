@@ -5,10 +5,11 @@ ghost use mathlib.Core.Option.{Option·map};
 ghost use Prim.Native.Nat.{_+_, _-_, _*_, min, _≤_, _<_};
 ghost use lib.IntN.{pos};
 ghost use lib.ListN.{length, getD, drop};
-ghost use Rattle.text.specs.Split.{split, until, sameWord};
-ghost use Rattle.text.specs.Divided.{kept, Divided};
+ghost use Rattle.text.specs.Split.{split, sameWord};
+ghost use Rattle.text.specs.inner.Divided.{kept, Divided};
 ghost use Rattle.text.specs.Number.{digitsAfter, natural, numeral};
-ghost use Rattle.text.specs.Capped.{cap, cappedNumber};
+ghost use Rattle.text.specs.inner.Capped.{cap, cappedNumber};
+ghost use Rattle.text.specs.inner.Divided.{until};
 
 // A field read as a number. A size above CAP is given as CAP, with its sign.
 pub enum Number {

@@ -7,7 +7,7 @@ mod told; // told.rt: an answer in rows, or a refusal in one number
 ghost use mathlib.Core.Path.{_≡_};
 ghost use mathlib.Core.List.{[], _∷_};
 ghost use lib.ListN.{length};
-ghost use Rattle.tapes.specs.Part.{spanOf};
+ghost use Rattle.sample_row.specs.Part.{spanOf};
 ghost use Rattle.tape_maker.specs.Run.{requested, RunIs};
 ghost use Rattle.tape_maker.specs.Report.{ReportIs};
 ghost use Rattle.tape_maker.specs.Sample.{SampleIs};
@@ -87,7 +87,7 @@ pub extern "C" fn tilsando_tape(
     ensures { λ r. ⌜ (r ≡ 0) × (now (answer .exit)
         ≡ laid (spanValues (spanOf (now (lengths .entry)) tape (length (now (row .entry))))) (now (answer .entry))) ⌝ }
 {
-    let span = tapes::span_of(row, lengths, tape);
+    let span = sample_row::span_of(row, lengths, tape);
     let numbers = [span.start as u64, span.count as u64];
     rows::lay_numbers(answer, &numbers);
     0

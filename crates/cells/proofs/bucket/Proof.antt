@@ -3,8 +3,8 @@ use mathlib.Core.Path.{ap, _∙_}
 use Prim.Native.Nat.{ℕ, _+_, _*_, _/_, _%_}
 use native.Mathlib.Nat.{mod-lt}
 use native.Mathlib.Omega.{arith}
-use Rattle.cells.specs.Columns.{half}
-use Rattle.cells.specs.Index.{foldOf, bucketOf}
+use Rattle.cells.specs.inner.Columns.{half}
+use Rattle.cells.specs.inner.Index.{foldOf, bucketOf}
 use Rattle.cells.proofs.Buckets.{half-word, steps-few, scaled-below, scaled-fits}
 use borrow.Author.Needs.{needs}
 use Rattle.cells.proofs.bucket.Statement.{statement}

@@ -5,8 +5,8 @@ use mathlib.Core.Logic.{⊎-elim}
 use Prim.Native.Nat.{_<_}
 use native.Mathlib.Omega.{arith}
 use borrow.Author.Needs.{needs}
-use Rattle.cells.specs.Columns.{placeField, patternField, wordColumn}
-use Rattle.cells.specs.Index.{Node, node, FoundIs}
+use Rattle.cells.specs.inner.Columns.{placeField, patternField, wordColumn}
+use Rattle.cells.specs.inner.Index.{Node, node, FoundIs}
 use Rattle.cells.proofs.Entering.{room}
 use Rattle.cells.proofs.Walk.{Walking, walk-start, walk-falls, walk-next}
 use Rattle.cells.proofs.find.Statement.{statement}

@@ -4,8 +4,8 @@ use denote.Ref.{now}
 use lib.Bits.{bitOr}
 use lib.ListN.{set}
 use borrow.Author.Needs.{needs}
-use Rattle.cells.specs.Columns.{marksField, column}
-use Rattle.cells.specs.Marks.{marking}
+use Rattle.cells.specs.inner.Columns.{marksField, column}
+use Rattle.cells.specs.inner.Marks.{marking}
 use Rattle.cells.proofs.Marking.{shifted-one}
 use Rattle.cells.proofs.mark.Statement.{statement}
 use Rattle.cells.proofs.mark.Tie as tie

@@ -5,8 +5,8 @@ use Prim.Native.Nat.{ℕ, _≤_}
 use native.Mathlib.Omega.{arith}
 use borrow.Author.Needs.{needs}
 use lib.ListN.{length}
-use Rattle.cells.specs.Columns.{distanceField, parentField, wayField, column}
-use Rattle.cells.specs.Way.{Parents}
+use Rattle.cells.specs.inner.Columns.{distanceField, parentField, wayField, column}
+use Rattle.cells.specs.inner.Way.{Parents}
 use Rattle.cells.proofs.Fields.{length-column}
 use Rattle.cells.proofs.WayBack.{TracingIn, parents-then, traced-first, traced-last, parent-is, traced-more, entry-below, parent-below, trace-end}
 use Rattle.cells.proofs.get.Reads as get-reads

@@ -3,7 +3,7 @@ use mathlib.Core.Path.{sym, ap, _∙_}
 use mathlib.Core.Bool.{true, false}
 use Prim.Native.Nat.{ℕ}
 use native.Mathlib.Omega.{arith}
-use Rattle.interpreter.specs.Held.{eitherOn}
+use Rattle.interpreter.specs.inner.Arrays.{eitherOn}
 use Rattle.interpreter.proofs.either.Statement.{statement}
 use Rattle.interpreter.proofs.either.Tie as tie
 

@@ -9,9 +9,9 @@ use mir.Syntax.{w32}
 use denote.Ref.{now}
 use lib.ListN.{getD, set}
 use lib.IntN.{ℤ, pos}
-use Rattle.interpreter.proofs.HeldLaws.{fits-put}
+use Rattle.interpreter.proofs.ArrayLaws.{fits-put}
 use Rattle.interpreter.proofs.put.Statement.{statement}
-use Rattle.interpreter.specs.Held.{countAt, outputs}
+use Rattle.interpreter.specs.inner.Arrays.{countAt, outputs}
 use Rattle.interpreter.proofs.put.Tie as tie
 
 -- the instruction is a put

@@ -11,9 +11,9 @@ use lib.ListN.{getD, set}
 use lib.IntN.{ℤ}
 use Rattle.flow.specs.declared.Instruction.{Instruction as Row}
 use Rattle.flow.specs.declared.Kind.the-variants.{Read}
-use Rattle.interpreter.proofs.HeldLaws.{fits-kind, read-none, read-some}
+use Rattle.interpreter.proofs.ArrayLaws.{fits-kind, read-none, read-some}
 use Rattle.interpreter.proofs.read_record.Statement.{statement}
-use Rattle.interpreter.specs.Held.{RowFits, countAt}
+use Rattle.interpreter.specs.inner.Arrays.{RowFits, countAt}
 use Rattle.interpreter.proofs.read_record.Tie as tie
 
 -- the tape, the variable and the targets of the read

@@ -16,7 +16,7 @@ use Rattle.interpreter.proofs.RowLaws.{row-fits}
 use Rattle.interpreter.proofs.RunLaws.{rows-kept, cell-free}
 use Rattle.interpreter.proofs.RunLaws.{Running, running-start, running-on, counts-below, ends-stopped, ends-spent, ends-full}
 use Rattle.interpreter.proofs.run_from.Statement.{statement}
-use Rattle.interpreter.specs.Held.{RowFits, stops, outputs}
+use Rattle.interpreter.specs.inner.Arrays.{RowFits, stops, outputs}
 use Rattle.interpreter.proofs.run_from.Tie as tie
 
 abbrev Inv-loop : tie.InvT-loop

@@ -16,9 +16,9 @@ use Rattle.flow.specs.Limits.{maxTapes, maxVariables}
 use Rattle.flow.specs.Code.{instructionOf}
 use Rattle.flow.specs.declared.Kind.{Kind}
 use Rattle.flow.specs.declared.Kind.the-variants.{Put, Copy, Set, Less, Over, Under, Nop}
-use Rattle.interpreter.proofs.HeldLaws.{kinded, fits-kind, stepped}
+use Rattle.interpreter.proofs.ArrayLaws.{kinded, fits-kind, stepped}
 use Rattle.interpreter.proofs.step.Statement.{statement}
-use Rattle.interpreter.specs.Held.{FieldsFit, RowFits, eitherOn, stops}
+use Rattle.interpreter.specs.inner.Arrays.{FieldsFit, RowFits, eitherOn, stops}
 use Rattle.interpreter.proofs.step.Tie as tie
 
 -- ---- by kind: what the row names fits

@@ -1,7 +1,7 @@
 -- `straight` meets its contract.
 use mathlib.Core.Path.{ap}
 use borrow.Author.Needs.{needs}
-use Rattle.interpreter.specs.Held.{straightOn}
+use Rattle.interpreter.specs.inner.Arrays.{straightOn}
 use Rattle.interpreter.proofs.straight.Statement.{statement}
 use Rattle.interpreter.proofs.straight.Tie as tie
 

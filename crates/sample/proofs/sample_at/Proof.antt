@@ -4,7 +4,7 @@ use mathlib.Core.Path.{refl, _∙_}
 use native.Mathlib.Omega.{arith}
 use denote.Ref.{now}
 use mir.Facts.{toZ-ofZ}
-use Rattle.cells.specs.Columns.{distanceField}
+use Rattle.cells.specs.inner.Columns.{distanceField}
 use Rattle.cells.proofs.Fields.{length-column}
 use Rattle.sample.proofs.Picking.{tabled-after, nearest-after, traced-after, far-after, way-long, tabled-at, nearest-below, nearest-room, way-leads, way-ends-there, short-picked, taken-picked}
 use Rattle.sample.proofs.sample_at.Statement.{statement}

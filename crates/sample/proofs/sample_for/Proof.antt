@@ -3,8 +3,8 @@ use borrow.Author.Needs.{needs}
 use denote.Ref.{now}
 use mir.Facts.{toZ-ofZ}
 use native.Mathlib.Omega.{arith}
-use Rattle.cells.specs.Columns.{placeField, columnsOf}
-use Rattle.cells.specs.Entries.{Entries, entriesOf}
+use Rattle.cells.specs.inner.Columns.{placeField, columnsOf}
+use Rattle.cells.specs.inner.Entries.{Entries, entriesOf}
 use Rattle.cells.proofs.Fields.{length-word-column}
 use Rattle.sample.proofs.Picking.{nearest-is, tabled-at, tabled-wide, tabled-first, tabled-last, nothing-picked}
 use Rattle.sample.proofs.sample_for.Statement.{statement}

@@ -1,6 +1,6 @@
 -- `sizes_of` meets its contract.
 use denote.Ref.{now}
-use Rattle.cells.specs.Columns.{placeField, wayField, column, wordColumn}
+use Rattle.cells.specs.inner.Columns.{placeField, wayField, column, wordColumn}
 use Rattle.sample.proofs.Counts.{reads-below, sizes-three}
 use borrow.Author.Needs.{needs}
 use Rattle.sample.proofs.sizes_of.Statement.{statement}

@@ -1,9 +1,9 @@
 -- `words_on` meets its contract.
 use mathlib.Core.Path.{ap, _∙_}
 use denote.Ref.{now}
-use Rattle.cells.specs.Columns.{columnsOf}
-use Rattle.cells.specs.Entries.{entriesOf}
-use Rattle.table.specs.Table.{wordsAt}
+use Rattle.cells.specs.inner.Columns.{columnsOf}
+use Rattle.cells.specs.inner.Entries.{entriesOf}
+use Rattle.search_table.specs.inner.Table.{wordsAt}
 use borrow.Author.Needs.{needs}
 use Rattle.sample.proofs.words_on.Statement.{statement}
 use Rattle.sample.proofs.words_on.Tie as tie

@@ -4,13 +4,13 @@ use native.Mathlib.Omega.{arith}
 use denote.Ref.{now}
 use lib.ListN.{length}
 use mir.Facts.{toZ-ofZ}
-use Rattle.table.specs.Passes.{Stands}
-use Rattle.sample.specs.Sampling.{Course, courseIn, CourseLeads, Roomy, Following}
+use Rattle.search_table.specs.inner.Passes.{Stands}
+use Rattle.sample.specs.inner.Sampling.{Course, courseIn, CourseLeads, Roomy, Following}
 use Rattle.sample.proofs.Numbers as numbers
 use Rattle.sample.proofs.Counts.{op-by-place}
 use Rattle.sample.proofs.Ending.{end-roomy, end-asks, end-written}
 use borrow.Author.Needs.{needs}
-use Rattle.table.proofs.Reading.{on-way}
+use Rattle.search_table.proofs.Reading.{on-way}
 use Rattle.sample.proofs.write_sample.Statement.{statement}
 use Rattle.sample.proofs.write_sample.Tie as tie
 

@@ -5,15 +5,15 @@ use Prim.Native.Nat.{ℕ, _+_, _-_, _<_, _≤_}
 use native.Mathlib.Omega.{arith}
 use denote.Ref.{now}
 use lib.ListN.{length}
-use Rattle.table.proofs.Reading.{on-way}
+use Rattle.search_table.proofs.Reading.{on-way}
 use mir.Syntax.{w32}
 use mir.Val.{toZ}
 use mir.Facts.{toZ-ofZ}
 use Rattle.model.specs.Language.{Flow}
 use Rattle.configuration.specs.declared.Words.{Words}
-use Rattle.table.specs.Passes.{Stands}
-use Rattle.tapes.specs.Reading.{firstWalk}
-use Rattle.sample.specs.Sampling.{Course, courseIn, CourseLeads, Roomy, Following}
+use Rattle.search_table.specs.inner.Passes.{Stands}
+use Rattle.sample_row.specs.inner.Reading.{firstWalk}
+use Rattle.sample.specs.inner.Sampling.{Course, courseIn, CourseLeads, Roomy, Following}
 use Rattle.sample.proofs.Numbers as numbers
 use Rattle.sample.proofs.Counts.{op-by-words}
 use Rattle.sample.proofs.Stepping.{following-first, loop-asks, loop-follows}

@@ -5,17 +5,17 @@ use native.Mathlib.Omega.{arith}
 use denote.Ref.{now}
 use borrow.Author.Needs.{needs}
 use Rattle.configuration.proofs.next.Reads as next-reads
-use Rattle.cells.specs.Columns.{columnsOf}
-use Rattle.cells.specs.Entries.{entriesOf, distanceOf}
+use Rattle.cells.specs.inner.Columns.{columnsOf}
+use Rattle.cells.specs.inner.Entries.{entriesOf, distanceOf}
 use Rattle.cells.proofs.Entering.{room}
 use Rattle.cells.proofs.get.Reads as get-reads
-use Rattle.table.specs.Table.{wordsAt}
-use Rattle.table.proofs.words_at.Reads as words-at-reads
-use Rattle.growth.specs.Fan.{FanFits}
-use Rattle.growth.proofs.Fanning.{fan-answer, next-ready, next-answer}
-use Rattle.growth.proofs.fan.Reads as fan-reads
-use Rattle.growth.proofs.visit.Reads as visit-reads
-use Rattle.growth.proofs.after_visit.Reads as after-visit-reads
+use Rattle.search_table.specs.inner.Table.{wordsAt}
+use Rattle.search_table.proofs.words_at.Reads as words-at-reads
+use Rattle.search_visit.specs.inner.Fan.{FanFits}
+use Rattle.search_visit.proofs.Fanning.{fan-answer, next-ready, next-answer}
+use Rattle.search_visit.proofs.fan.Reads as fan-reads
+use Rattle.search_visit.proofs.visit.Reads as visit-reads
+use Rattle.search_visit.proofs.after_visit.Reads as after-visit-reads
 use Rattle.search.proofs.Exploring.{expanded-by}
 use Rattle.search.proofs.expand.Reads as reads
 use Rattle.search.proofs.expand.Lts as lts

@@ -4,7 +4,7 @@ use Prim.Native.Nat.{ℕ, _≤_}
 use native.Mathlib.Omega.{arith}
 use denote.Ref.{now}
 use borrow.Author.Needs.{needs}
-use Rattle.search.specs.Search.{SearchedIs}
+use Rattle.search.specs.inner.Search.{SearchedIs}
 use Rattle.search.proofs.Exploring.{begun-exploring, none-fits, marks-room, of-all-cells}
 use Rattle.search.proofs.search.Statement.{statement}
 use Rattle.search.proofs.search.Tie as tie

@@ -6,13 +6,13 @@ use Prim.Native.Nat.{ℕ, _+_, _-_, _%_}
 use native.Mathlib.Omega.{arith}
 use lib.ListN.{length}
 use borrow.Author.Needs.{needs}
-use Rattle.configuration.specs.Place.{atOf}
-use Rattle.cells.specs.Columns.{marksField, columnsOf}
+use Rattle.configuration.specs.inner.Place.{atOf}
+use Rattle.cells.specs.inner.Columns.{marksField, columnsOf}
 use Rattle.cells.proofs.Fields.{column-long}
 use Rattle.cells.proofs.Entering.{room}
 use Rattle.cells.proofs.word.Reads as word-reads
-use Rattle.search.specs.Search.{Subject, Exploring, SearchedIs}
-use Rattle.growth.proofs.Fanning.{grown-to, grown-full}
+use Rattle.search.specs.inner.Search.{Subject, Exploring, SearchedIs}
+use Rattle.search_visit.proofs.Fanning.{grown-to, grown-full}
 use Rattle.search.proofs.Exploring.{either, picked, entry-fine, entry-near, explored, explored-full, finished}
 use Rattle.configuration.proofs.Op.stop.Reads as stop-reads
 use Rattle.configuration.proofs.place.at.Reads as at-reads

@@ -5,7 +5,7 @@ use Prim.Native.Nat.{_-_}
 use native.Mathlib.Omega.{arith}
 use denote.Ref.{now}
 use lib.ListN.{length, length-set}
-use Rattle.text.specs.Divided.{kept}
+use Rattle.text.specs.inner.Divided.{kept}
 use Rattle.text.proofs.Dividing.{Passed, none-passed, EndStored, room, no-room, one-passed, all-passed}
 use Rattle.text.proofs.divide.Statement.{statement}
 use Rattle.text.proofs.divide.Tie as tie

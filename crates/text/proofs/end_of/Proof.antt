@@ -4,10 +4,10 @@ use Prim.Native.Nat.{_+_, _-_, _≤_}
 use native.Mathlib.Omega.{arith}
 use denote.Ref.{now}
 use lib.ListN.{length, drop}
-use Rattle.text.specs.Split.{until}
 use Rattle.text.proofs.Parts.{until-here, until-further, until-end}
 use Rattle.text.proofs.end_of.Statement.{statement}
 use Rattle.text.proofs.end_of.Tie as tie
+use Rattle.text.specs.inner.Divided.{until}
 
 abbrev Inv-loop : tie.InvT-loop
 Inv-loop text from byte i₀ i = (i ≤ length text) × (i + until byte (drop i text) ≡ from + until byte (drop from text))

@@ -4,7 +4,7 @@ use Prim.Native.Nat.{_+_, _-_}
 use native.Mathlib.Omega.{arith}
 use denote.Ref.{now}
 use lib.ListN.{getD}
-use Rattle.text.specs.Divided.{begins, Between}
+use Rattle.text.specs.inner.Divided.{begins, Between}
 use Rattle.text.proofs.Dividing.{begins-first, begins-later, field-cut, field-none}
 use Rattle.text.proofs.field.Statement.{statement}
 use Rattle.text.proofs.field.Tie as tie

@@ -8,7 +8,7 @@ use mir.Syntax.{w64}
 use mir.Facts.{toZ-pos}
 use Rattle.text.specs.declared.Number.the-variants.{Value}
 use Rattle.text.specs.Number.{digitsAfter}
-use Rattle.text.specs.Capped.{cap, cappedNumber}
+use Rattle.text.specs.inner.Capped.{cap, cappedNumber}
 use Rattle.text.proofs.Digits.{answer, capped-so-far, digits-end, digit-at, low-at, high-at}
 use Rattle.text.proofs.read_digits.Statement.{statement}
 use Rattle.text.proofs.read_digits.Tie as tie

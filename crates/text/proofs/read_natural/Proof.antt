@@ -3,7 +3,7 @@ use mathlib.Core.Path.{sym, ap, _∙_}
 use native.Mathlib.Omega.{arith}
 use borrow.Author.Needs.{needs}
 use denote.Ref.{now}
-use Rattle.text.specs.Capped.{cappedNumber}
+use Rattle.text.specs.inner.Capped.{cappedNumber}
 use Rattle.text.proofs.Digits.{answer, natural-empty, natural-one, natural-zero, natural-more}
 use Rattle.text.proofs.read_natural.Statement.{statement}
 use Rattle.text.proofs.read_natural.Tie as tie

@@ -8,7 +8,7 @@ use borrow.Author.Tests.{not-true, not-false}
 use denote.Ref.{now}
 use Rattle.text.specs.declared.Number.the-variants.{Value}
 use Rattle.text.specs.Number.{natural, negative, numeral}
-use Rattle.text.specs.Capped.{cappedNumber}
+use Rattle.text.specs.inner.Capped.{cappedNumber}
 use Rattle.text.proofs.Digits.{answer, digitsBehind, numeral-empty, numeral-plain, numeral-barred, numeral-minus}
 use Rattle.text.proofs.Digits.{minus-bad, minus-fits, minus-zero, minus-value}
 use Rattle.text.proofs.read_number.Statement.{statement}

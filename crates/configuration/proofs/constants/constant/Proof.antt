@@ -10,7 +10,7 @@ use Rattle.flow.specs.Words.{sorts, mayMinus}
 use Rattle.flow.specs.Code.{numbersIn, instructionOf}
 use Rattle.flow.specs.declared.Sort.the-variants.{Target}
 use Rattle.flow.proofs.RowLaws.{width-bound}
-use Rattle.configuration.specs.Inner.{constantIn}
+use Rattle.configuration.specs.inner.Prepare.{constantIn}
 use Rattle.configuration.proofs.Prepared as laws
 use Rattle.configuration.proofs.constants.constant.Statement.{statement}
 use Rattle.configuration.proofs.constants.constant.Tie as tie

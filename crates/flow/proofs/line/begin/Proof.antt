@@ -9,8 +9,8 @@ use denote.Ref.{now}
 use lib.ListN.{length, getD}
 use Rattle.text.specs.Split.{split}
 use Rattle.flow.specs.Words.{kindOf, sorts}
-use Rattle.flow.specs.Inner.{kindIn}
-use Rattle.flow.specs.Line.{smallIn}
+use Rattle.flow.specs.inner.Reader.{kindIn}
+use Rattle.flow.specs.inner.Line.{smallIn}
 use Rattle.flow.specs.declared.Kind.{Kind}
 use Rattle.flow.proofs.RowLaws.{width-bound}
 use Rattle.flow.proofs.LineLaws as laws

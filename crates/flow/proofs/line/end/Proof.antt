@@ -5,7 +5,7 @@ use borrow.Author.Tests.{eq-eqb, ne-eqb, not-true, not-false}
 use Rattle.model.specs.Language.{Instruction, fields}
 use Rattle.flow.specs.Read.{ok, all, inRange}
 use Rattle.flow.specs.Code.{row, instructionOf}
-use Rattle.flow.specs.Line.{endLine}
+use Rattle.flow.specs.inner.Line.{endLine}
 use Rattle.flow.proofs.RowLaws.{built-row}
 use Rattle.flow.proofs.line.end.Statement.{statement}
 use Rattle.flow.proofs.line.end.Tie as tie

@@ -5,7 +5,7 @@ use mathlib.Core.List.{List}
 use Prim.Native.Nat.{ℕ}
 use borrow.Author.Needs.{needs}
 use Rattle.text.specs.Number.{numeral}
-use Rattle.text.specs.Capped.{cappedNumber}
+use Rattle.text.specs.inner.Capped.{cappedNumber}
 use Rattle.flow.specs.Words.{mayMinus}
 use Rattle.flow.proofs.line.number_at.Statement.{statement}
 use Rattle.flow.proofs.line.number_at.Tie as tie

@@ -16,8 +16,8 @@ use Rattle.text.specs.Split.{lines, split}
 use Rattle.flow.specs.Words.{sorts}
 use Rattle.flow.specs.Read.{Checked, ok, fault, numerals, readLines}
 use Rattle.flow.specs.Code.{row as rowBy, rowOf}
-use Rattle.flow.specs.Inner.{bounded, keptRows, answered, linesIn}
-use Rattle.flow.specs.Line.{begunIn, beginLine, endedIn}
+use Rattle.flow.specs.inner.Reader.{bounded, keptRows, answered, linesIn}
+use Rattle.flow.specs.inner.Line.{begunIn, beginLine, endedIn}
 use Rattle.flow.specs.declared.Head.{Head}
 use Rattle.flow.specs.declared.Instruction.{Instruction as Row}
 use Rattle.flow.specs.declared.Refusal.{Refusal}

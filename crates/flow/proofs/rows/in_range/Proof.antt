@@ -11,7 +11,7 @@ use mir.Val.{SFits}
 use mir.Facts.{toZ-ofZ}
 use Rattle.model.specs.Language.{fields}
 use Rattle.flow.specs.Words.{sorts, built, at}
-use Rattle.flow.specs.Inner.{field}
+use Rattle.flow.specs.inner.Reader.{field}
 use Rattle.flow.specs.Read.{all, inRange}
 use Rattle.flow.specs.declared.Sort.{Sort}
 use Rattle.flow.proofs.RowLaws as laws

@@ -8,13 +8,13 @@ use mir.Facts.{toZ-ofZ}
 use lib.IntN.{ℤ, pos}
 use Rattle.model.specs.Language.{C1, C2}
 use Rattle.flow.specs.Code.{flowOf}
-use Rattle.configuration.specs.Op.{offset, opOf, widthOf}
-use Rattle.configuration.specs.Pattern.{lane}
-use Rattle.configuration.specs.Step.{startOf}
+use Rattle.configuration.specs.inner.Op.{offset, opOf, widthOf}
+use Rattle.configuration.specs.inner.Pattern.{lane}
+use Rattle.configuration.specs.inner.Step.{startOf}
 use Rattle.configuration.proofs.Fitting.{fit-legal}
 use Rattle.configuration.proofs.Reaches.{start-fits}
-use Rattle.table.specs.Passes.{blank}
-use Rattle.tape_maker.specs.Inner.{Each}
+use Rattle.search_table.specs.inner.Passes.{blank}
+use Rattle.tape_maker.specs.inner.Plan.{Each}
 use Rattle.tape_maker.proofs.ReportLaws.{rows-prepared, rows-bytes}
 use Rattle.tape_maker.proofs.planning.plan_of.Statement.{statement}
 use Rattle.tape_maker.proofs.planning.plan_of.Tie as tie

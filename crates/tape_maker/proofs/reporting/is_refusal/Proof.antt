@@ -1,7 +1,7 @@
 -- `tape_maker::reporting::is_refusal` meets its contract, end by end.
 use mathlib.Core.Path.{sym, ap}
 use borrow.Author.Needs.{needs}
-use Rattle.tape_maker.specs.Inner.{reportRefused}
+use Rattle.tape_maker.specs.inner.Plan.{reportRefused}
 use Rattle.tape_maker.proofs.reporting.is_refusal.Statement.{statement}
 use Rattle.tape_maker.proofs.reporting.is_refusal.Tie as tie
 

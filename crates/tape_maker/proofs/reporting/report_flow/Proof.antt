@@ -3,9 +3,9 @@ use borrow.Author.Needs.{needs}
 use Rattle.model.specs.Language.{C1}
 use Rattle.flow.specs.Code.{flowOf}
 use Rattle.cells.specs.Cells.{cellsOf}
-use Rattle.cells.specs.Columns.{columnsOf}
+use Rattle.cells.specs.inner.Columns.{columnsOf}
 use denote.Ref.{now}
-use Rattle.search.specs.Search.{Finished}
+use Rattle.search.specs.inner.Search.{Finished}
 use Rattle.tape_maker.proofs.ReportLaws.{plan-subject, plan-wide, finished-walkable, search-done, search-full, done-searched, full-searched}
 use Rattle.tape_maker.proofs.reporting.report_flow.Statement.{statement}
 use Rattle.tape_maker.proofs.reporting.report_flow.Tie as tie

@@ -11,10 +11,10 @@ use Rattle.model.specs.Language.{C1}
 use Rattle.model.specs.Machine.{exitIf}
 use Rattle.flow.specs.Code.{flowOf}
 use Rattle.cells.specs.Cells.{cellsOf}
-use Rattle.cells.specs.Columns.{columnsOf}
-use Rattle.cells.specs.Entries.{entriesOf}
-use Rattle.search.specs.Search.{Finished}
-use Rattle.sample.specs.Sampling.{Tabled}
+use Rattle.cells.specs.inner.Columns.{columnsOf}
+use Rattle.cells.specs.inner.Entries.{entriesOf}
+use Rattle.search.specs.inner.Search.{Finished}
+use Rattle.sample.specs.inner.Sampling.{Tabled}
 use Rattle.tape_maker.specs.Sample.{Wanted}
 use Rattle.tape_maker.proofs.ReportLaws.{plan-subject, search-done, search-full}
 use Rattle.tape_maker.proofs.SampleLaws.{flow-exits, finished-tabled, finished-held, plain-answered, full-answered, done-answered}

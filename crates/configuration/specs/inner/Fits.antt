@@ -1,0 +1,42 @@
+-- What is asked of a flow and of words: that the flow fits the words, and that the words stand for a configuration of the flow.
+use mathlib.Core.Path.{_≡_}
+use mathlib.Core.Bool.{false}
+use Prim.Native.Nat.{ℕ, _+_, _-_, _<_, _≤_}
+use lib.IntN.{ℤ, pos, negsuc, _+ℤ_}
+use lib.ListN.{drop, replicate}
+use Rattle.model.specs.inner.Integers.{up, dn, Inside}
+use Rattle.model.specs.Language.{Flow}
+use Rattle.model.specs.inner.View.{viewAt, LegalFlow, Targeted}
+use Rattle.flow.specs.Limits.{maxTapes, maxVariables}
+use Rattle.configuration.specs.inner.Pattern.{Width, lanes, Valid}
+use Rattle.configuration.specs.inner.Place.{endsOf}
+use Rattle.configuration.specs.inner.Op.{offset}
+use Rattle.configuration.specs.declared.Words.{Words}
+
+-- lo to hi are w whole numbers, 0 among them
+pub record Span (lo hi : ℤ) (w : ℕ) : Type 0 where
+  pub width : Width w
+  pub zero : Inside lo hi (pos 0)
+  pub edge : up lo + w + dn hi ≡ up hi + 1 + dn lo
+
+abbrev pub real : ℤ → ℕ → ℤ
+real lo x = (lo +ℤ negsuc 15) +ℤ pos x
+
+-- what is asked of a flow: the theory's demands, and that it fits the words
+abbrev pub FitsPlace : ℕ → Type 0
+FitsPlace n = n < 128
+
+pub record FlowFits (lo hi : ℤ) (w : ℕ) (flow : Flow) : Type 0 where
+  pub span : Span lo hi w
+  pub legal : LegalFlow lo hi flow
+  pub tapes : flow .tapes ≤ maxTapes
+  pub variables : flow .variables ≤ maxVariables
+  pub targets : (i : ℕ) → Targeted FitsPlace (viewAt flow i)
+
+-- words that stand for a configuration of the flow: the codes are those of values, and the lanes and bits that the flow does not name are 0
+pub record ProperWords (lo : ℤ) (w : ℕ) (flow : Flow) (x : Words) : Type 0 where
+  pub again : Valid w (x .pattern)
+  pub idle : drop (flow .variables) (lanes (x .pattern)) ≡ replicate (maxVariables - flow .variables) (offset (pos 0) lo)
+  pub unmet : drop (flow .tapes) (endsOf (x .place)) ≡ replicate (maxTapes - flow .tapes) false
+  pub place-fits : x .place < 1024
+  pub pattern-fits : x .pattern < 18446744073709551616

@@ -1,0 +1,32 @@
+-- The graph on words of a search. Its edges: the step that reads no record; and, for a read whose tape has not ended, a step for each trial record.
+use mathlib.Core.Path.{_≡_}
+use mathlib.Core.Bool.{false}
+use mathlib.Core.Option.{Option, some}
+use Prim.Native.Nat.{ℕ, zero, suc, _+_, _≤_}
+use lib.IntN.{ℤ}
+use Rattle.model.specs.Language.{Flow, instruction}
+use Rattle.model.specs.Machine.{Exit, p-exit}
+use Rattle.configuration.specs.inner.Place.{atOf}
+use Rattle.configuration.specs.inner.Op.{opOf}
+use Rattle.configuration.specs.inner.Step.{nextOf, takeOf, wordExitOf, endedOf, startOf}
+use Rattle.configuration.specs.declared.Words.{Words}
+use Rattle.configuration.specs.declared.Op.{Op}
+use Rattle.configuration.specs.declared.Action.the-variants.{Read}
+
+-- trial records reach 9 beyond C1 and C2: two for each of four variables, and one
+pub record Trial (w y : ℕ) : Type 0 where
+  pub first : 7 ≤ y
+  pub last : y ≤ w + 24
+
+pub data WordEdge (w : ℕ) (op : Op) (x : Words) : Option Exit → Words → Type 0 where
+  moves : WordEdge w op x (wordExitOf w op x) (nextOf w op x)
+  takes : (y : ℕ) → op .action ≡ Read → endedOf (x .place) (op .tape) ≡ false → Trial w y → WordEdge w op x (some p-exit) (takeOf w op x y)
+
+-- the prepared instruction that words are about to run
+abbrev pub opAt : (lo : ℤ) → Flow → Words → Op
+opAt lo flow x = opOf lo (instruction flow (atOf (x .place)))
+
+-- words that n steps reach
+pub data WordsReached (lo : ℤ) (w : ℕ) (flow : Flow) : ℕ → Words → Type 0 where
+  begin : WordsReached lo w flow zero (startOf lo)
+  onward : {n : ℕ} {x x′ : Words} {e : Option Exit} → WordsReached lo w flow n x → WordEdge w (opAt lo flow x) x e x′ → WordsReached lo w flow (suc n) x′

@@ -1,0 +1,4 @@
+pub mod Lists
+pub mod Integers
+pub mod View
+pub mod Runs

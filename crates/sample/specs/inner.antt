@@ -1,0 +1,3 @@
+pub mod Picking
+pub mod Steps
+pub mod Sampling

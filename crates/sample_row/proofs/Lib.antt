@@ -1,0 +1,11 @@
+pub mod Bits
+pub mod Mapped
+pub mod Parts
+pub mod Sized
+pub mod Folds
+pub mod Arms
+pub mod Followed
+pub mod Sampled
+pub mod Spans
+pub mod ChoiceLaws
+pub mod WalkInvariant

@@ -1,0 +1,49 @@
+-- `counted` meets its contract: of a read that takes exit p the tape's count is one more, and else nothing changes (proofs/Reading.antt).
+use native.Mathlib.Omega.{arith}
+use borrow.Author.Tests.{not-true, not-false}
+use borrow.Author.Needs.{needs}
+use Rattle.search_table.proofs.Reading.{counted-plain, counted-none, counted-one, counted-past}
+use Rattle.search_table.proofs.counted.Statement.{statement}
+use Rattle.search_table.proofs.counted.Tie as tie
+
+returns : tie.Need-returns
+returns c =
+    let a = c .before .before .args in
+    counted-plain (a .counts) (a .op) _ (a .taken) (c .before .is-read .ensures) (not-true _ (c .if1 .taken))
+
+returns-2 : tie.Need-returns-2
+returns-2 c =
+    let a = c .before .before .before .args in
+    counted-none (a .counts) (a .op) _ (a .taken) (c .before .before .is-read .ensures) (not-true _ (c .if2 .taken))
+
+returns-3 : tie.Need-returns-3
+returns-3 c =
+    let a = c .before .before .before .before .before .args in
+    let e = c .before .before in
+    counted-past (a .counts) (a .op) _ (a .taken) (e .before .before .is-read .ensures) (not-false _ (e .before .if1 .left)) (not-false _ (e .if2 .left))
+    (omega arith)
+
+add-more : tie.Need-add-more
+add-more c = omega (arith, c .before .before .before .before .before .pre (c .before .before .before .before .before .args .op .tape))
+
+returns-4 : tie.Need-returns-4
+returns-4 c =
+    let a = c .before .before .before .before .before .args in
+    let e = c .before .before in
+    counted-one (a .counts) (a .op) _ (a .taken) (e .before .before .is-read .ensures) (not-false _ (e .before .if1 .left)) (not-false _ (e .if2 .left))
+
+pub counted-spec : {M : Type 1} → statement M
+counted-spec =
+    tie.close
+    (tie.spec
+    (λ c κs. search needs)
+    returns
+    returns-2
+    (λ c. search needs)
+    returns-3
+    (λ c. search needs)
+    (λ c. search needs)
+    add-more
+    (λ c. search needs)
+    (λ c. search needs)
+    returns-4)

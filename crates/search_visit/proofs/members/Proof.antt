@@ -1,0 +1,102 @@
+-- `members` meets its contract. The loop keeps that the members by the records before y are stored; its measure is the records left.
+use mathlib.Core.Path.{_≡_, refl, _∙_}
+use Prim.Native.Nat.{_+_, _-_, _≤_}
+use native.Mathlib.Omega.{arith}
+use lib.ListN.{length}
+use borrow.Author.Needs.{needs}
+use Rattle.cells.specs.inner.Columns.{marksField, column, columnsOf}
+use Rattle.cells.specs.inner.Entries.{entriesOf}
+use Rattle.cells.specs.inner.Marks.{Unmarked}
+use Rattle.cells.proofs.Marking.{fresh-none, fresh-then}
+use Rattle.search_visit.specs.inner.Visit.{Kept}
+use Rattle.search_visit.specs.inner.Fan.{Member, MembersIs}
+use Rattle.search_visit.proofs.Growing.{kept-count}
+use Rattle.search_visit.proofs.Visiting.{visited-at, visited-full}
+use Rattle.search_visit.proofs.Marks.{fresh-to, fresh-at, fresh-full}
+use Rattle.search_visit.proofs.Fanning.{Tried, members-none, members-more, members-full, members-all}
+use Rattle.search_visit.proofs.members.Statement.{statement}
+use Rattle.search_visit.proofs.members.Tie as tie
+
+abbrev Inv-loop : tie.InvT-loop
+Inv-loop cells₀ count size d k w v first last n₀ y₀ cells n y =
+    Kept (Member w v first) (Tried w v first y) (entriesOf (columnsOf cells₀)) (entriesOf (columnsOf cells)) (columnsOf cells .heads) (columnsOf cells .nexts)
+    count size d k n × (7 ≤ y) × Unmarked (column marksField cells₀) (column marksField cells) count n
+    × (length cells ≡ length cells₀)
+
+abbrev μ-loop : tie.MeasureT-loop
+μ-loop cells₀ count size d k w v first last n₀ y₀ cells n y = w + 25 - y
+
+loop-holds : tie.Need-loop-holds Inv-loop μ-loop
+loop-holds c = (members-none _ _ _ (c .pre .0), omega arith, fresh-none _ _, refl)
+
+fan-at-requires : tie.Need-fan-at-requires Inv-loop μ-loop
+fan-at-requires c κs =
+    let start = c .before .before in
+    (start .pre .1 .1 .0, start .pre .1 .1 .1)
+
+visit-requires : tie.Need-visit-requires Inv-loop μ-loop
+visit-requires c κs =
+    let at = c .before .before .before in
+    (at .loop .inv .0 .filled, omega (arith, kept-count (at .loop .inv .0), at .before .pre .1 .0))
+
+returns : tie.Need-returns Inv-loop μ-loop
+unfolding MembersIs
+returns c =
+    let visited = c .before .before .before in
+    let made = visited .before .before in
+    let inside = made .before in
+    let at = inside .before in (
+      members-full _ _ _ _ (at .loop .inv .0) (at .loop .inv .1) (omega (arith, inside .loop-test .taken)) _ (made .fan-at .ensures)
+          (visited-full _ _ _ _ _ _ _ _ _ _ (visited .visit .ensures .0) (c .enum-told .given .1)),
+      fresh-full _ _ _ _ _ _ (kept-count (at .loop .inv .0)) (at .loop .inv .2) (visited .visit .ensures .1) (c .enum-told .given .1),
+    )
+
+add-y : tie.Need-add-y Inv-loop μ-loop
+add-y c =
+    let inside = c .before .before .before .before .before .before .before in
+    record { fits = omega (arith, inside .loop-test .taken, inside .before .before .pre .1 .1 .0 .few) }
+
+loop-less : tie.Need-loop-less Inv-loop μ-loop
+loop-less c =
+    let inside = c .before .before .before .before .before .before .before in
+    omega (arith, inside .loop-test .taken)
+
+loop-again : tie.Need-loop-again Inv-loop μ-loop
+loop-again c =
+    let told = c .before in
+    let visited = told .before .before .before in
+    let made = visited .before .before in
+    let inside = made .before in
+    let at = inside .before in (
+      members-more _ _ _ _ (at .loop .inv .0) (at .loop .inv .1) (omega (arith, inside .loop-test .taken)) _ (made .fan-at .ensures)
+          (visited-at _ _ _ _ _ _ _ _ _ _ (visited .visit .ensures .0) (told .s .given .1)),
+      omega (arith, at .loop .inv .1),
+      fresh-then _ _ _ _ _ _ (kept-count (at .loop .inv .0)) (at .loop .inv .2) (fresh-at _ _ _ _ (visited .visit .ensures .1) (told .s .given .1)),
+      visited .visit .kept .0 ∙ at .loop .inv .3,
+    )
+
+returns-2 : tie.Need-returns-2 Inv-loop μ-loop
+unfolding MembersIs
+returns-2 c =
+    let i = c .before .loop .inv in
+    (members-all _ _ _ _ (i .0) (omega (arith, c .loop-test .left)), fresh-to _ _ _ _ (i .2))
+
+pub members-spec : {M : Type 1} → statement M
+members-spec =
+    tie.close
+    (tie.spec
+    Inv-loop
+    μ-loop
+    (λ c. search needs)
+    loop-holds
+    fan-at-requires
+    visit-requires
+    (λ c. search needs)
+    (λ c. search needs)
+    (λ c. search needs)
+    returns
+    add-y
+    loop-less
+    loop-again
+    (λ c. search needs)
+    returns-2)

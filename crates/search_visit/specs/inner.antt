@@ -1,0 +1,2 @@
+pub mod Fan
+pub mod Visit
