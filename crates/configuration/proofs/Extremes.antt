@@ -16,10 +16,11 @@ use mir.Val.{SFits, toZ, ofZ}
 use mir.Facts.{toZ-ofZ}
 use Rattle.model.specs.Language.{Instruction, fields, constants, allConstants, least, greatest, C1, C2}
 use Rattle.model.proofs.Integers.{zarith}
-use Rattle.flow.specs.Code.{row as rowBy, instructionOf, flowOf}
+use Rattle.flow.specs.Code.{row as rowBy}
 use Rattle.flow.specs.declared.Kind.the-variants.{Read}
 use Rattle.flow.specs.declared.Flow.{Flow as Rows}
 use Rattle.flow.specs.declared.Instruction.{Instruction as Row}
+use Rattle.flow.specs.inner.Rows.{instructionOf, flowOf}
 use Rattle.configuration.specs.inner.Prepare.{constantIn}
 use Rattle.configuration.proofs.Prepared.{few-constants}
 

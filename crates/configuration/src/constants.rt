@@ -6,7 +6,7 @@ ghost use Prim.Native.Nat.{_-_, _≤_, min};
 ghost use Rattle.model.specs.Language.{C1, C2};
 ghost use Rattle.flow.specs.Limits.{maxInstructions};
 ghost use Rattle.flow.specs.Words.{count};
-ghost use Rattle.flow.specs.Code.{instructionOf, flowOf};
+ghost use Rattle.flow.specs.inner.Rows.{instructionOf, flowOf};
 ghost use Rattle.configuration.specs.inner.Prepare.{FitBytes, constantIn, formed};
 ghost use Rattle.configuration.specs.inner.Op.{offset, widthOf, opOf};
 use crate::Op;

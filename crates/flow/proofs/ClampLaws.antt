@@ -17,7 +17,7 @@ use Rattle.text.proofs.Cap.{test-cut}
 use Rattle.flow.specs.Words.{sorts, mayMinus, count, at, built, sort, number}
 use Rattle.flow.specs.inner.Reader.{field}
 use Rattle.flow.specs.Read.{all, bounds, targets, between, inRange, isNamed}
-use Rattle.flow.specs.Code.{kind, numbers, row, rowOf, instructionOf}
+use Rattle.flow.specs.Code.{kind, numbers, row, rowOf}
 use Rattle.flow.specs.inner.Reader.{small, bounded, clamped, HeadFits}
 use Rattle.flow.proofs.RowLaws.{placed}
 use Rattle.flow.specs.declared.Kind.{Kind}
@@ -26,6 +26,7 @@ use Rattle.flow.specs.declared.Head.{Head}
 use Rattle.flow.proofs.Tests.{and-split}
 use Rattle.flow.proofs.SortLaws.{every-sort, tried-sort, sort-field, number-field}
 use Rattle.flow.proofs.RowLaws.{fields-built, built-row, parts-built}
+use Rattle.flow.specs.inner.Rows.{instructionOf}
 
 and-false : (b : Bool) → (b && false) ≡ false
 and-false true = refl

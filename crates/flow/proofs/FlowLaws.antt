@@ -15,7 +15,7 @@ use Rattle.text.proofs.Parts.{lines-at}
 use Rattle.text.specs.inner.Divided.{until}
 use Rattle.flow.specs.Limits.{maxBytes}
 use Rattle.flow.specs.Read.{Checked, ok, fault, check, after, unless, readHead, readFlow, isNamed, all, readLines, lostTarget, readRest}
-use Rattle.flow.specs.Code.{rowOf, instructionOf, rowsOf, readingOf}
+use Rattle.flow.specs.Code.{rowOf, rowsOf, readingOf}
 use Rattle.flow.specs.inner.Reader.{clamped, keptRows, judged, finished, HeadFits}
 use Rattle.flow.specs.declared.Refusal.{Refusal}
 use Rattle.flow.specs.declared.Refusal.the-variants.{TooLong, NoBytes, NoLastEnd, NoInstruction, NoSuchTarget}
@@ -24,6 +24,7 @@ use Rattle.flow.specs.declared.Instruction.{Instruction as Row}
 use Rattle.flow.specs.declared.Answer.the-variants.{Legal}
 use Rattle.flow.proofs.ClampLaws.{clamp-kept}
 use Rattle.flow.proofs.ReadLaws.{AllFit, lines-fit, at-most-64, lost-clamp, none-lost, fault-not-ok}
+use Rattle.flow.specs.inner.Rows.{instructionOf}
 
 -- what is kept of lines that are read
 pub kept-ok : (r : Checked (List Instruction)) (rows : List Row) → ok rows ≡ keptRows r → (xs : List Instruction) × (r ≡ ok xs) × (rows ≡ map clamped xs)

@@ -4,7 +4,7 @@
 use mathlib.Core.Path.{_≡_, refl, sym, ap, ap₂, _∙_}
 use mathlib.Core.Bool.{Bool, true, false}
 use mathlib.Core.List.{List, [], _∷_, _++_, map, append-nil, append-assoc}
-use mathlib.Core.Option.{Option, none, some, Option·map}
+use mathlib.Core.Option.{Option, none, some, Option·map, bind}
 use Prim.Native.Nat.{ℕ, suc, _+_, _-_, _≤_, _<_, min}
 use native.Mathlib.Omega.{arith}
 use native.Mathlib.Numerals.{add-one}
@@ -25,7 +25,7 @@ use Rattle.text.proofs.Decimal.{none-no-some}
 use Rattle.text.specs.inner.Divided.{until}
 use Rattle.flow.specs.Limits.{maxInstructions}
 use Rattle.flow.specs.Words.{kindOf, sorts, mayMinus, built}
-use Rattle.flow.specs.Read.{Checked, ok, fault, check, given, after, inRange, all, joined, numerals, readLine, readLines}
+use Rattle.flow.specs.Read.{Checked, ok, fault, check, given, after, inRange, all, numerals, readLine, readLines}
 use Rattle.flow.specs.Code.{row}
 use Rattle.flow.specs.inner.Reader.{small, bounded, clamped, keptRows, HeadFits}
 use Rattle.flow.specs.inner.Line.{smallAt, beginLine, endLine}
@@ -38,7 +38,7 @@ use Rattle.flow.specs.declared.line.Start.{Start}
 use Rattle.flow.specs.declared.Refusal.{Refusal}
 use Rattle.flow.specs.declared.Refusal.the-variants.{UnknownWord, WrongCount, BadNumber, OutOfRange, OutOfTurn, TooManyLines}
 use Rattle.flow.proofs.RowLaws.{kind-built, row-past}
-use Rattle.flow.proofs.WriteLineLaws.{numeral-natural, numbers-built}
+use Rattle.flow.proofs.WriteLineLaws.{numeral-natural, numbers-built, joined}
 use Rattle.flow.proofs.ClampLaws.{in-range-row}
 use Rattle.flow.proofs.ReadLaws.{check-ok, given-ok}
 
@@ -69,6 +69,7 @@ joinedAll xs (some ys) = some (xs ++ ys)
 
 join-one-more : (xs : List ℤ) (z : ℤ) (rest : Option (List ℤ)) →
     joinedAll (xs ++ (bounded z ∷ [])) (keptAll rest) ≡ joinedAll xs (keptAll (joined (some z) rest))
+unfolding bind
 join-one-more xs z none = refl
 join-one-more xs z (some zs) = ap some (append-assoc xs (bounded z ∷ []) (map bounded zs))
 
@@ -103,6 +104,7 @@ module _ (cs : List Sort) (fs : List (List ℕ)) (ns : List ℤ) where
           rw t (join-one-more (take k ns) z (numerals (drop (k + 1) cs) (drop (k + 1 + 2) fs)) ∙ (rw (next, written) at inv))
 
       pub numbers-bad : cappedNumber (numeral (mayMinus (getD cs k Target)) (getD fs (k + 2) [])) ≡ Bad → numerals cs (drop 2 fs) ≡ none
+      unfolding bind
       numbers-bad e = by (numerals cs (drop 2 fs)) (rw (next, number-bad _ e) at inv)
         where
           by : (o : Option (List ℤ)) → none ≡ keptAll o → o ≡ none

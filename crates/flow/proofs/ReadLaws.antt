@@ -17,7 +17,6 @@ use Rattle.text.specs.Number.{natural}
 use Rattle.flow.specs.Limits.{maxInstructions}
 use Rattle.flow.specs.Words.{kindOf, sorts, built}
 use Rattle.flow.specs.Read.{Checked, ok, fault, check, given, after, inRange, isNamed, all, numerals, readLine, readLines, lostTarget}
-use Rattle.flow.specs.Code.{instructionOf}
 use Rattle.flow.specs.inner.Reader.{clamped, HeadFits}
 use Rattle.flow.specs.declared.Kind.{Kind}
 use Rattle.flow.specs.declared.Refusal.{Refusal}
@@ -25,6 +24,7 @@ use Rattle.flow.specs.declared.Refusal.the-variants.{UnknownWord, WrongC
 use Rattle.flow.specs.declared.Head.{Head}
 use Rattle.flow.specs.declared.Instruction.{Instruction as Row}
 use Rattle.flow.proofs.ClampLaws.{is-named-clamp}
+use Rattle.flow.specs.inner.Rows.{instructionOf}
 
 -- ---- an answer that is no refusal has passed its checks
 pub fault-not-ok : {A : Type 0} {r : Refusal} {x : A} → fault r ≡ ok x → ⊥

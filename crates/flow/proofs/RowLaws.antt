@@ -17,12 +17,13 @@ use Rattle.text.specs.Split.{sameWord}
 use Rattle.flow.specs.Words.{table, kinds, firstNamed, kindOf, sorts, at, built}
 use Rattle.flow.specs.inner.Reader.{field}
 use Rattle.flow.specs.Read.{all}
-use Rattle.flow.specs.Code.{kind, numbers, row, numbersIn, rowOf, instructionOf}
+use Rattle.flow.specs.Code.{kind, numbers, row, numbersIn, rowOf}
 use Rattle.flow.specs.inner.Reader.{four}
 use Rattle.flow.specs.declared.Kind.{Kind}
 use Rattle.flow.specs.declared.Kind.the-variants.{Read, Put, Copy, Set, Less, Over, Under, Nop, Stop}
 use Rattle.flow.specs.declared.Sort.{Sort}
 use Rattle.flow.specs.declared.Sort.the-variants.{Target}
+use Rattle.flow.specs.inner.Rows.{instructionOf}
 
 -- the fields of some sorts that hold the numbers from place j on
 abbrev pub placed : List Sort → List ℤ → ℕ → List Field

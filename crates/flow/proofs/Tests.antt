@@ -11,7 +11,7 @@ use Rattle.model.specs.Language.{Instruction, Flow, instruction, Field, tape, o
 use Rattle.model.proofs.View.{OnTarget, targeted}
 use Rattle.model.proofs.Constants.{legal-basic}
 use Rattle.model.specs.inner.Lists.{All}
-use Rattle.model.specs.inner.View.{Numbered, LegalFlow as Sound, Targeted, view, viewAt}
+use Rattle.model.specs.inner.View.{Numbered, LegalFlow, Targeted, view, viewAt}
 use Rattle.flow.specs.Read.{all, inRange, isNamed}
 use Rattle.flow.specs.Legal.{Legal, head}
 
@@ -30,7 +30,7 @@ all-hold test P h [] e = tt
 all-hold test P h (f ∷ fs) e = let (a, b) = and-split (test f) (all test fs) e in (h f a, all-hold test P h fs b)
 
 -- what the theory of the model asks of a flow, with its own C1 and C2
-pub ranges-sound : (flow : Flow) → ((i : ℕ) → all (inRange (head flow)) (fields (instruction flow i)) ≡ true) → Sound (C1 flow) (C2 flow) flow
+pub ranges-sound : (flow : Flow) → ((i : ℕ) → all (inRange (head flow)) (fields (instruction flow i)) ≡ true) → LegalFlow (C1 flow) (C2 flow) flow
 ranges-sound flow h = legal-basic flow (λ i. all-hold (inRange (head flow)) (Numbered flow) one (fields (instruction flow i)) (h i))
   where
     one : (f : Field) → inRange (head flow) f ≡ true → Numbered flow f

@@ -3,7 +3,7 @@
 use mathlib.Core.Path.{_≡_, refl, sym, ap, ap₂, _∙_}
 use mathlib.Core.Bool.{Bool, true, false, cond, _&&_, true≢false}
 use mathlib.Core.List.{List, [], _∷_, map}
-use mathlib.Core.Option.{Option, none, some, Option·map}
+use mathlib.Core.Option.{Option, none, some, Option·map, bind}
 use Prim.Native.Nat.{ℕ, suc, _+_}
 use native.Mathlib.Omega.{arith}
 use borrow.Author.Tests.{eq-eqb, eqb-true, le-leb, ltb-true}
@@ -21,7 +21,7 @@ use Rattle.text.proofs.Decimal.{none-no-some, decimal-read, plain-read, signed-
 use Rattle.flow.specs.Limits.{maxTapes, maxOutputs, maxVariables}
 use Rattle.flow.specs.Words.{table, kinds, firstNamed, kindOf, sorts, mayMinus, count, at, built, number}
 use Rattle.flow.specs.inner.Reader.{field}
-use Rattle.flow.specs.Read.{ok, joined, numerals, inRange, all, headOf, readHead, readLine}
+use Rattle.flow.specs.Read.{ok, numerals, inRange, all, headOf, readHead, readLine}
 use Rattle.flow.specs.Code.{kind, numbers}
 use Rattle.flow.specs.inner.Reader.{HeadFits}
 use Rattle.flow.proofs.RowLaws.{placed}
@@ -38,7 +38,7 @@ use Rattle.flow.proofs.ReadLaws.{LineRead, line-read}
 -- ---- what is written is read
 -- the numbers in fields of some sorts are read back
 numbers-read : (ss : List Sort) (zs : List ℤ) (j : ℕ) → let fs = map number (placed ss zs j) in numerals ss (map signed fs) ≡ some fs
-unfolding numerals
+unfolding numerals bind
 numbers-read [] zs j = refl
 numbers-read (s ∷ ss) zs j = rw (one s (at zs j), numbers-read ss zs (suc j))
   where
@@ -116,11 +116,15 @@ number-back s f z = rw (number-field z s) (by (mayMinus s) z)
     by false (pos n) e = (refl, numeral-written false f (pos n) e)
     by false (negsuc n) e = absurd (no-minus f n e)
 
+-- a number in front of those of the rest, if all are well written
+abbrev pub joined : Option ℤ → Option (List ℤ) → Option (List ℤ)
+joined o rest = bind o (λ z. Option·map (λ zs. z ∷ zs) rest)
+
 -- the numbers that are read are those in the fields of the instruction, and are written so
 module _ (ws : List ℤ) where
   numbers-back : (ss : List Sort) (fs : List (List ℕ)) (zs : List ℤ) (j : ℕ) → length fs ≡ length ss → numerals ss fs ≡ some zs → ((i : ℕ) → at ws (j + i) ≡ at zs i)
       → (map number (placed ss ws j) ≡ zs) × (fs ≡ map signed zs)
-  unfolding numerals
+  unfolding numerals bind
   numbers-back [] [] zs j l e h = let none : [] ≡ zs = cc in (none, ap (map signed) none)
   numbers-back [] (f ∷ fs) zs j l e h = absurd (omega arith)
   numbers-back (s ∷ ss) [] zs j l e h = absurd (omega arith)

@@ -2,10 +2,10 @@
 use mathlib.Core.List.{List, [], _∷_, _++_, map}
 use Prim.Native.Nat.{_-_}
 use lib.IntN.{ℤ}
-use lib.ListN.{length, replicate, take}
+use lib.ListN.{length, replicate}
 use Rattle.model.specs.Language.{Instruction, read, put, copy, const, less, over, under, nop, stop, Flow, fields}
 use Rattle.flow.specs.Limits.{maxInstructions}
-use Rattle.flow.specs.Words.{number, at, built}
+use Rattle.flow.specs.Words.{number, at}
 use Rattle.flow.specs.Read.{Checked, ok, fault}
 use Rattle.flow.specs.declared.Kind.{Kind}
 use Rattle.flow.specs.declared.Kind.the-variants.{Read, Put, Copy, Set, Less, Over, Under, Nop, Stop}
@@ -41,29 +41,15 @@ numbersIn x = x .first ∷ x .second ∷ x .third ∷ x .fourth ∷ []
 abbrev pub rowOf : Instruction → Row
 rowOf x = row (kind x) (numbers x)
 
-abbrev pub instructionOf : Row → Instruction
-instructionOf x = built (x .kind) (numbersIn x)
-
 -- a flow as the code holds it; a faulty text comes with the empty one
 unfoldable pub rowsOf : Flow → Rows
-rowsOf flow =
-    record {
-      tapes = flow .tapes;
-      outputs = flow .outputs;
-      variables = flow .variables;
-      count = length (flow .instructions);
-      instructions = map rowOf (flow .instructions) ++ replicate (maxInstructions - length (flow .instructions)) (rowOf stop);
-    }
-
--- the flow that rows hold
-unfoldable pub flowOf : Rows → Flow
-flowOf rows =
-    record {
-      tapes = rows .tapes;
-      outputs = rows .outputs;
-      variables = rows .variables;
-      instructions = map instructionOf (take (rows .count) (rows .instructions));
-    }
+rowsOf flow = record {
+  tapes = flow .tapes;
+  outputs = flow .outputs;
+  variables = flow .variables;
+  count = length (flow .instructions);
+  instructions = map rowOf (flow .instructions) ++ replicate (maxInstructions - length (flow .instructions)) (rowOf stop);
+}
 
 abbrev pub noFlow : Flow
 noFlow = record { tapes = 0; outputs = 0; variables = 0; instructions = [] }

@@ -3,22 +3,20 @@
 // The limits stand in `Flow`, and nowhere else in the code. `read` is the reader: what it answers is what `readFlow` of
 // specs/Read.antt says of the text.
 pub mod words; // words.rt: the word of a line, and the fields that it asks for
-mod rows; // rows.rt: the numbers of a line as a row keeps them, and their ranges
+mod rows; // rows.rt: an instruction as a row, its numbers, and their ranges
 mod line; // line.rt: one instruction line
 mod lines; // lines.rt: line 1, the instruction lines, the targets
 pub mod lent; // lent.rt: an instruction fetched from a lent slice, and stored there
 
 ghost use mathlib.Core.Path.{_≡_};
-ghost use Prim.Native.Nat.{_≤_, _<_};
+ghost use Prim.Native.Nat.{_≤_};
 ghost use lib.ListN.{length, drop};
 ghost use Rattle.flow.specs.Limits.{maxInstructions};
 ghost use Rattle.flow.specs.Refusals.{numberOf, placeOf};
-ghost use Rattle.model.specs.Language.{stop};
 ghost use Rattle.text.specs.Split.{lines};
 ghost use Rattle.flow.specs.Read.{headOf, readRest, readFlow, fault};
-ghost use Rattle.flow.specs.Words.{count as counted, at};
-ghost use Rattle.flow.specs.Code.{row, rowOf, numbersIn, readingOf, rowsOf, noFlow};
-ghost use Rattle.flow.specs.inner.Reader.{headIn, maxNumbers, finished, HeadFits};
+ghost use Rattle.flow.specs.Code.{readingOf, rowsOf, noFlow};
+ghost use Rattle.flow.specs.inner.Reader.{headIn, finished, HeadFits};
 use lines::Targets;
 
 // The kinds of instruction, by their words.
@@ -105,54 +103,6 @@ pub struct Reading {
     pub flow: Flow,
 }
 
-impl Refusal {
-    // The number of a refusal.
-    pub fn number(self) -> usize
-        ensures { λ r. ⌜ r ≡ numberOf self ⌝ }
-    {
-        match self {
-            Refusal::TooLong => 1,
-            Refusal::NoBytes => 2,
-            Refusal::NoLastEnd => 3,
-            Refusal::UnknownWord(_) => 4,
-            Refusal::WrongCount(_) => 4,
-            Refusal::BadNumber(_) => 4,
-            Refusal::OutOfRange(_) => 5,
-            Refusal::OutOfTurn(_) => 6,
-            Refusal::NoSuchTarget(_) => 7,
-            Refusal::TooManyLines => 8,
-            Refusal::NoInstruction => 8,
-            Refusal::TooFewCells => 9,
-            Refusal::ShortRow => 10,
-            Refusal::NoSuchExit => 11,
-            Refusal::WrongTapes => 12,
-        }
-    }
-
-    // The place of a refusal.
-    pub fn place(self) -> usize
-        ensures { λ r. ⌜ r ≡ placeOf self ⌝ }
-    {
-        match self {
-            Refusal::TooLong => 0,
-            Refusal::NoBytes => 0,
-            Refusal::NoLastEnd => 0,
-            Refusal::UnknownWord(line) => line,
-            Refusal::WrongCount(line) => line,
-            Refusal::BadNumber(line) => line,
-            Refusal::OutOfRange(line) => line,
-            Refusal::OutOfTurn(line) => line,
-            Refusal::NoSuchTarget(line) => line,
-            Refusal::TooManyLines => Flow::MAX_INSTRUCTIONS + 2,
-            Refusal::NoInstruction => 2,
-            Refusal::TooFewCells => 0,
-            Refusal::ShortRow => 0,
-            Refusal::NoSuchExit => 0,
-            Refusal::WrongTapes => 0,
-        }
-    }
-}
-
 impl Flow {
     pub const MAX_BYTES: usize = 4096;
 
@@ -218,65 +168,51 @@ impl Flow {
     }
 }
 
-impl Instruction {
-    pub const MAX_NUMBERS: usize = 4;
-
-    // An instruction of a kind, from the numbers after the word.
-    fn new(kind: Kind, numbers: [i32; Instruction::MAX_NUMBERS]) -> Self
-        ensures { λ r. ⌜ r ≡ row kind numbers ⌝ }
+impl Refusal {
+    // The number of a refusal.
+    pub fn number(self) -> usize
+        ensures { λ r. ⌜ r ≡ numberOf self ⌝ }
     {
-        Instruction {
-            kind,
-            first: numbers[0],
-            second: numbers[1],
-            third: numbers[2],
-            fourth: numbers[3],
+        match self {
+            Refusal::TooLong => 1,
+            Refusal::NoBytes => 2,
+            Refusal::NoLastEnd => 3,
+            Refusal::UnknownWord(_) => 4,
+            Refusal::WrongCount(_) => 4,
+            Refusal::BadNumber(_) => 4,
+            Refusal::OutOfRange(_) => 5,
+            Refusal::OutOfTurn(_) => 6,
+            Refusal::NoSuchTarget(_) => 7,
+            Refusal::TooManyLines => 8,
+            Refusal::NoInstruction => 8,
+            Refusal::TooFewCells => 9,
+            Refusal::ShortRow => 10,
+            Refusal::NoSuchExit => 11,
+            Refusal::WrongTapes => 12,
         }
     }
 
-    // `stop`, which also fills the rows past the last instruction.
-    fn stop() -> Self
-        ensures { λ r. ⌜ r ≡ rowOf stop ⌝ }
+    // The place of a refusal.
+    pub fn place(self) -> usize
+        ensures { λ r. ⌜ r ≡ placeOf self ⌝ }
     {
-        Instruction {
-            kind: Kind::Stop,
-            first: 0,
-            second: 0,
-            third: 0,
-            fourth: 0,
+        match self {
+            Refusal::TooLong => 0,
+            Refusal::NoBytes => 0,
+            Refusal::NoLastEnd => 0,
+            Refusal::UnknownWord(line) => line,
+            Refusal::WrongCount(line) => line,
+            Refusal::BadNumber(line) => line,
+            Refusal::OutOfRange(line) => line,
+            Refusal::OutOfTurn(line) => line,
+            Refusal::NoSuchTarget(line) => line,
+            Refusal::TooManyLines => Flow::MAX_INSTRUCTIONS + 2,
+            Refusal::NoInstruction => 2,
+            Refusal::TooFewCells => 0,
+            Refusal::ShortRow => 0,
+            Refusal::NoSuchExit => 0,
+            Refusal::WrongTapes => 0,
         }
-    }
-
-    // Its numbers, for a loop over the fields of its line.
-    fn numbers(self) -> [i32; Instruction::MAX_NUMBERS]
-        ensures { λ r. ⌜ r ≡ numbersIn self ⌝ }
-    {
-        [self.first, self.second, self.third, self.fourth]
-    }
-
-    // The number in field k after the word.
-    pub fn number(self, k: usize) -> i32
-        requires { ⌜ k < maxNumbers ⌝ }
-        ensures { λ r. ⌜ r ≡ at (numbersIn self) k ⌝ }
-    {
-        if k == 0 {
-            return self.first;
-        }
-        if k == 1 {
-            return self.second;
-        }
-        if k == 2 {
-            return self.third;
-        }
-        self.fourth
-    }
-
-    // The same, of a number that counts from 1.
-    pub fn count(self, k: usize) -> usize
-        requires { ⌜ (k < maxNumbers) × (1 ≤ counted (at (numbersIn self) k)) ⌝ }
-        ensures { λ r. ⌜ r ≡ counted (at (numbersIn self) k) ⌝ }
-    {
-        self.number(k) as usize
     }
 }
 

@@ -1,22 +1,84 @@
-// The numbers of a line as a row keeps them, and whether they lie in their ranges.
+// An instruction as a row: the numbers of its line as the row keeps them, and whether they lie in their ranges.
 //
 // The size of a number comes here with at most 10,000,000,000, and a row keeps at most 100,000: for a larger number it keeps one that
 // lies outside every range too (`bounded`).
 ghost use mathlib.Core.Path.{_≡_};
 ghost use mathlib.Core.Option.{some};
-ghost use Prim.Native.Nat.{min};
+ghost use Prim.Native.Nat.{min, _≤_, _<_};
 ghost use lib.IntN.{natAbs, pos};
-ghost use Rattle.model.specs.Language.{fields};
-ghost use Rattle.flow.specs.Words.{built, number};
-ghost use Rattle.flow.specs.inner.Reader.{field};
+ghost use Rattle.model.specs.Language.{stop, fields};
+ghost use Rattle.flow.specs.Words.{built, number, count as counted, at};
+ghost use Rattle.flow.specs.Code.{row, rowOf, numbersIn};
 ghost use Rattle.flow.specs.Read.{bounds as boundsOf, targets as targetsOf, between, all, inRange, isNamed};
-ghost use Rattle.flow.specs.inner.Reader.{bounded, rangeIn};
+ghost use Rattle.flow.specs.inner.Reader.{maxNumbers, bounded, rangeIn, field};
 use crate::Flow;
 use crate::Head;
 use crate::Instruction;
 use crate::Kind;
 use crate::Sort;
 use crate::words;
+
+impl Instruction {
+    pub const MAX_NUMBERS: usize = 4;
+
+    // An instruction of a kind, from the numbers after the word.
+    pub fn new(kind: Kind, numbers: [i32; Instruction::MAX_NUMBERS]) -> Self
+        ensures { λ r. ⌜ r ≡ row kind numbers ⌝ }
+    {
+        Instruction {
+            kind,
+            first: numbers[0],
+            second: numbers[1],
+            third: numbers[2],
+            fourth: numbers[3],
+        }
+    }
+
+    // `stop`, which also fills the rows past the last instruction.
+    pub fn stop() -> Self
+        ensures { λ r. ⌜ r ≡ rowOf stop ⌝ }
+    {
+        Instruction {
+            kind: Kind::Stop,
+            first: 0,
+            second: 0,
+            third: 0,
+            fourth: 0,
+        }
+    }
+
+    // Its numbers, for a loop over the fields of its line.
+    pub fn numbers(self) -> [i32; Instruction::MAX_NUMBERS]
+        ensures { λ r. ⌜ r ≡ numbersIn self ⌝ }
+    {
+        [self.first, self.second, self.third, self.fourth]
+    }
+
+    // The number in field k after the word.
+    pub fn number(self, k: usize) -> i32
+        requires { ⌜ k < maxNumbers ⌝ }
+        ensures { λ r. ⌜ r ≡ at (numbersIn self) k ⌝ }
+    {
+        if k == 0 {
+            return self.first;
+        }
+        if k == 1 {
+            return self.second;
+        }
+        if k == 2 {
+            return self.third;
+        }
+        self.fourth
+    }
+
+    // The same, of a number that counts from 1.
+    pub fn count(self, k: usize) -> usize
+        requires { ⌜ (k < maxNumbers) × (1 ≤ counted (at (numbersIn self) k)) ⌝ }
+        ensures { λ r. ⌜ r ≡ counted (at (numbersIn self) k) ⌝ }
+    {
+        self.number(k) as usize
+    }
+}
 
 // The size of a number, without its sign.
 fn magnitude(x: i64) -> u64

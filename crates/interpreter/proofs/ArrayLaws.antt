@@ -11,12 +11,12 @@ use lib.IntN.{ℤ, pos}
 use lib.ListN.{length, getD, set, take, drop-of-length-le, length-take, length-set}
 use lib.Seq.{slice, slice-cons}
 use Rattle.model.specs.Machine.{stepBy, exitBy, State, readFrom, hasRecord, exitIf}
-use Rattle.flow.specs.Code.{instructionOf}
 use Rattle.flow.specs.declared.Instruction.{Instruction as Row}
 use Rattle.flow.specs.declared.Kind.{Kind}
 use Rattle.flow.specs.declared.Kind.the-variants.{Read}
 use Rattle.flow.specs.Limits.{maxTapes, maxVariables}
 use Rattle.flow.specs.Words.{branches}
+use Rattle.flow.specs.inner.Rows.{instructionOf}
 use Rattle.interpreter.proofs.RowLaws.{put-fits}
 use Rattle.interpreter.specs.declared.Onward.{Onward}
 use Rattle.interpreter.specs.inner.Arrays.{countAt, eitherOn, exitWhen, leftIn, held, Placed, RowFits, outputs, Stepped}

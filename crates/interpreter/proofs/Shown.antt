@@ -15,7 +15,6 @@ use Rattle.model.specs.Language.{Instruction, instruction, fields, C1, C2}
 use Rattle.model.specs.Machine.{State, value, stepBy, Exit, p-exit, m-exit, exitBy, exitOf}
 use Rattle.model.proofs.View.{SoundView, sound}
 use Rattle.model.specs.inner.View.{view}
-use Rattle.flow.specs.Code.{instructionOf, flowOf}
 use Rattle.flow.specs.Legal.{Legal}
 use Rattle.flow.specs.Read.{all, isNamed}
 use Rattle.flow.specs.declared.Flow.{Flow as Rows}
@@ -24,6 +23,7 @@ use Rattle.flow.proofs.Tests.{ranges-sound}
 use Rattle.interpreter.proofs.Narrow.{Narrow, same-value, narrow-step, narrow-exit}
 use Rattle.interpreter.proofs.RowLaws.{putting, row-stops, row-puts, put-fits, leads-on, row-is, flow-fits}
 use Rattle.flow.specs.Words.{branches}
+use Rattle.flow.specs.inner.Rows.{instructionOf, flowOf}
 use Rattle.interpreter.specs.declared.Onward.{Onward}
 use Rattle.interpreter.specs.inner.Arrays.{FieldsFit, countAt, held, Placed, stops, outputs, exitWhen, Stepped}
 use Rattle.interpreter.specs.Run.{Output, Progress, coming, putsBy, counted, onward, isStop, fit, written}

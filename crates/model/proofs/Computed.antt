@@ -14,9 +14,9 @@ use lib.Dec.{T, ltb, leb, eqb, ltb→lt, nltb→le, leb→le, eqb→eq, eqb-refl
 use Rattle.model.specs.Language.{Instruction, stop, Flow, Field, tape, output, variable, target, constant, fields, C1, C2}
 use Rattle.model.specs.Machine.{Exit, p-exit, step, exitOf}
 use Rattle.model.specs.Pattern.{Mark, inside, above, below, equal}
-use Rattle.graph.specs.Lists.{In, Once}
+use Rattle.graph.specs.Lists.{In, Once, Census}
 use Rattle.graph.proofs.Counting.{in-map, map-in}
-use Rattle.model.specs.Configuration.{Configuration, configuration, Census}
+use Rattle.model.specs.Configuration.{Configuration, configuration, Reachable}
 use Rattle.model.specs.Distance.{Distance, NoDistance}
 use Rattle.model.proofs.Integers.{zarith, suc-is, sub-pos, and-in, and-out, or-in, or-left, or-right, true-in, false-in}
 use Rattle.model.proofs.Lists.{all-getD, in-left, in-right, in-either}
@@ -302,7 +302,7 @@ module _ (lo hi : ℤ) (flow : Flow) where
     ball-once (suc n) = add-once (fringe (ball n)) (ball n) (ball-once n)
 
     -- ---- the census, distances and none
-    pub computed-census : (n : ℕ) → T (whole n) → Census lo hi flow (ball n)
+    pub computed-census : (n : ℕ) → T (whole n) → Census (Reachable lo hi flow) (ball n)
     computed-census n e = record {
       once = ball-once n;
       all = λ c r. whole-ball n e (reachable-reach l c r .1);

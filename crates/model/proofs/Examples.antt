@@ -10,9 +10,10 @@ use Rattle.model.specs.Language.{read, copy, less, over, under, stop, In
 use Rattle.model.specs.Machine.{p-exit, m-exit}
 use Rattle.model.specs.Pattern.{above, below, among, different, mark, pattern}
 use Rattle.model.specs.Distance.{Distance, NoDistance}
-use Rattle.model.specs.Configuration.{Configuration, Census}
+use Rattle.model.specs.Configuration.{Configuration, Reachable}
 use Rattle.model.proofs.Side.{place, spread}
 use Rattle.model.proofs.Computed.{ball, legal-tested, computed-census, computed-distance, computed-none}
+use Rattle.graph.specs.Lists.{Census}
 
 -- ranks count from the nearest, and equal values share one
 ranks : pattern (pos 0) (pos 5) (pos 9 ∷ pos 7 ∷ negsuc 8 ∷ pos 9 ∷ []) ≡ above 2 ∷ above 1 ∷ below 1 ∷ above 2 ∷ []
@@ -34,7 +35,7 @@ standing i (c ∷ l) = cond (eqb (c .next) i) (suc (standing i l)) (standing i l
 abbrev A : Flow
 A = flow 1 (read 1 1 2 3 ∷ over (pos 5) 1 1 3 ∷ stop ∷ [])
 
-census-A : Census (C1 A) (C2 A) A (reached A 4)
+census-A : Census (Reachable (C1 A) (C2 A) A) (reached A 4)
 unfolding C1 C2 least greatest allConstants constants pattern mark different among spread place
 census-A = computed-census (C1 A) (C2 A) A (legal-tested A tt) 4 tt
 

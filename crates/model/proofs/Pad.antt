@@ -15,9 +15,9 @@ use Rattle.model.specs.Language.{Flow, instruction, Field, tape, output,
 use Rattle.model.specs.Machine.{State, Exit, exitIf, hasRecord, exitOf, run}
 use Rattle.model.specs.Distance.{Takes, Distance, NoDistance}
 use Rattle.model.specs.Pattern.{Mark, inside, equal, among, different, mark, pattern}
-use Rattle.graph.specs.Lists.{In}
+use Rattle.graph.specs.Lists.{In, Census}
 use Rattle.graph.proofs.Counting.{census-map}
-use Rattle.model.specs.Configuration.{Configuration, configuration, Reachable, Census}
+use Rattle.model.specs.Configuration.{Configuration, configuration, Reachable}
 use Rattle.model.specs.Sample.{Sample}
 use Rattle.model.proofs.Integers.{zarith, false-out}
 use Rattle.model.proofs.Lists.{all-weaker, in-left, map-replicate}
@@ -73,7 +73,7 @@ abbrev Onto : (lo hi : ℤ) (f g : Flow) (there back : Configuration → Configu
 Onto lo hi f g there back = (c : Configuration) → Reachable lo hi f c → Reachable lo hi g (there c) × (back (there c) ≡ c)
 
 census-onto : (lo hi : ℤ) (f g : Flow) (there back : Configuration → Configuration) → Onto lo hi f g there back → Onto lo hi g f back there
-    → (list : List Configuration) → Census lo hi f list → Census lo hi g (map there list)
+    → (list : List Configuration) → Census (Reachable lo hi f) list → Census (Reachable lo hi g) (map there list)
 census-onto lo hi f g there back a b =
     census-map there (Reachable lo hi f) (Reachable lo hi g) (λ x p. a x p .0) (λ c r. (back c, b c r .0, b c r .1))
     (λ x y p q e. sym (a x p .1) ∙ ap back e ∙ a y q .1)
@@ -286,5 +286,5 @@ module _ {lo hi : ℤ} {flow : Flow} (l : LegalFlow lo hi flow) (nt nv : ℕ) (m
       let f : configuration lo hi s ≡ narrow c = sym (narrow-widen (configuration lo hi s) x) ∙ ap narrow e in
       (subst (Reachable lo hi flow) f x, ap widen (sym f) ∙ e)
 
-  pub census-narrow : (list : List Configuration) → Census lo hi (wider nt nv flow) list → Census lo hi flow (map narrow list)
+  pub census-narrow : (list : List Configuration) → Census (Reachable lo hi (wider nt nv flow)) list → Census (Reachable lo hi flow) (map narrow list)
   census-narrow list k = census-onto lo hi wide flow narrow widen reachable-narrow (λ c r. (reachable-widen c r, narrow-widen c r)) list k

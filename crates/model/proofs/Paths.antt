@@ -7,10 +7,11 @@ use Prim.Native.Nat.{ℕ}
 use native.Mathlib.Numerals.{add-one}
 use lib.IntN.{ℤ}
 use Rattle.graph.specs.inner.Graph.{Graph, Path, here, onward, Reached, ExitDistance, NoExit}
+use Rattle.graph.specs.Lists.{Census}
 use Rattle.model.specs.Language.{Flow}
 use Rattle.model.specs.Machine.{Exit}
 use Rattle.model.specs.Distance.{Distance, NoDistance}
-use Rattle.model.specs.Configuration.{Configuration, Census}
+use Rattle.model.specs.Configuration.{Configuration, Reachable}
 use Rattle.model.proofs.Graph.{Edge, origin, Reach, first, further}
 use Rattle.model.proofs.Theorems.{Leads, distance-of-paths, none-of-paths, reachable-reach, reach-reachable}
 use Rattle.model.specs.inner.View.{LegalFlow}
@@ -61,7 +62,7 @@ module _ {lo hi : ℤ} {flow : Flow} (l : LegalFlow lo hi flow) where
   pub none-of-exit : (i : ℕ) (e : Exit) → NoExit (configurations lo hi flow) (Taking i e) → NoDistance flow i e
   none-of-exit i e never = none-of-paths l i e (λ k p. never k (exit-of-leads p))
 
-  pub census-of-reached : (list : List Configuration) → Rattle.graph.specs.Lists.Census (Reached (configurations lo hi flow)) list → Census lo hi flow list
+  pub census-of-reached : (list : List Configuration) → Census (Reached (configurations lo hi flow)) list → Census (Reachable lo hi flow) list
   census-of-reached list k = record {
     once = k .once;
     all = λ c r. let (n, x) = reachable-reach l c r in k .all c (n, path-of-reach x);

@@ -1,11 +1,10 @@
--- Configurations, those that are reachable, and how many there are (document 01, "Distances and configurations").
+-- Configurations, and those that are reachable (document 01, "Distances and configurations").
 use mathlib.Core.Path.{_≡_}
 use mathlib.Core.Bool.{Bool}
 use mathlib.Core.List.{List}
 use Prim.Native.Nat.{ℕ}
 use lib.IntN.{ℤ}
 use lib.ListN.{length}
-use Rattle.graph.specs.Lists.{Census as CensusOf}
 use Rattle.model.specs.Language.{Flow}
 use Rattle.model.specs.Machine.{State, run}
 use Rattle.model.specs.Pattern.{Mark, pattern}
@@ -25,7 +24,3 @@ pub record Reachable (lo hi : ℤ) (flow : Flow) (c : Configuration) : Type 0 wh
   pub count : length tapes ≡ flow .tapes
   pub n : ℕ
   pub arrives : configuration lo hi (run flow tapes n) ≡ c
-
--- a census holds each reachable configuration once and nothing else; its length is their number
-abbrev pub Census : (lo hi : ℤ) → Flow → List Configuration → Type 0
-Census lo hi flow list = CensusOf (Reachable lo hi flow) list

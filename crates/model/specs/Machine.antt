@@ -81,8 +81,7 @@ exitOf flow s = exitBy (instruction flow (s .next)) s
 
 -- the start: instruction 1, every variable 0, every tape at its first record, no end met
 abbrev pub start : Flow → List (List ℤ) → State
-start flow tapes =
-    record { next = 1; variables = replicate (flow .variables) (pos 0); left = tapes; ended = replicate (flow .tapes) false }
+start flow tapes = record { next = 1; variables = replicate (flow .variables) (pos 0); left = tapes; ended = replicate (flow .tapes) false }
 
 -- n steps from a state
 abbrev pub steps : Flow → ℕ → State → State

@@ -5,6 +5,6 @@ use lib.ListN.{length}
 use Rattle.report.specs.declared.Input.{Input}
 use Rattle.report.specs.declared.Input.the-variants.{Bytes, Failed}
 
-unfoldable pub Filled : Input → List ℕ → Type 0
-Filled (Bytes n) buf = n ≤ length buf
-Filled Failed buf = Unit {0}
+unfoldable pub FillsBuffer : Input → List ℕ → Type 0
+FillsBuffer (Bytes n) buf = n ≤ length buf
+FillsBuffer Failed buf = Unit {0}

@@ -1,6 +1,6 @@
 // Prints the report of the flow on standard input, with 4,096 cells lent (document 01, "The report"): the row of `render::report_of`.
 // What cannot be read has no report: then one line says so on standard error, and standard output is empty.
-ghost use Rattle.report.specs.Input.{Filled};
+ghost use Rattle.report.specs.Input.{FillsBuffer};
 use flow::Flow;
 use libc::EINTR;
 use libc::STDERR_FILENO;
@@ -16,7 +16,7 @@ enum Input {
 // Reads until the input ends or buf is full. A read that a signal interrupts is done again. A proved loop has to end, and nothing says that
 // interruptions do: so the reads are counted down, from a number that no run uses up.
 fn read_all(fd: i32, buf: &mut [u8]) -> Input
-    ensures { λ r. ⌜ Filled r (now (buf .exit)) ⌝ }
+    ensures { λ r. ⌜ FillsBuffer r (now (buf .exit)) ⌝ }
 {
     let mut n = 0;
     let mut reads = u64::MAX;

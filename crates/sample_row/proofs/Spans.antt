@@ -10,8 +10,11 @@ use lib.IntN.{ℤ}
 use lib.ListN.{length, getD, take, drop}
 use lib.Seq.{take-suc, take-take, take-all}
 use Rattle.model.specs.Tapes.{total}
-use Rattle.sample_row.specs.Part.{nothing, spanOf, IsPart}
+use Rattle.sample_row.specs.Part.{spanOf, IsPart}
 use Rattle.sample_row.specs.declared.Span.{Span}
+
+abbrev nothing : Span
+nothing = record { start = 0; count = 0 }
 
 total-append : (xs ys : List ℕ) → total (xs ++ ys) ≡ total xs + total ys
 unfolding total

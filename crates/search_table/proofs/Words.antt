@@ -7,14 +7,14 @@ use Prim.Native.Nat.{ℕ, suc}
 use native.Mathlib.Omega.{arith}
 use lib.IntN.{ℤ}
 use lib.ListN.{length, length-map}
-use Rattle.graph.specs.Lists.{In, MoreThan}
+use Rattle.graph.specs.Lists.{In, MoreThan, Census}
 use Rattle.graph.specs.inner.Graph.{Path, here, onward, Reached}
 use Rattle.graph.proofs.Counting.{listed, length-listed, once-map, map-in}
 use Rattle.graph.proofs.Complete.{table-census}
 use Rattle.model.specs.Language.{Flow}
-use Rattle.model.specs.Configuration.{Reachable, Census}
+use Rattle.model.specs.Configuration.{Reachable}
 use Rattle.configuration.specs.inner.Place.{configurationOf}
-use Rattle.configuration.specs.inner.Graph.{WordsReached as Attained, begin, onward as further}
+use Rattle.configuration.specs.inner.Graph.{WordsReached, begin, onward as further}
 use Rattle.configuration.specs.declared.Words.{Words}
 use Rattle.configuration.proofs.Reaches.{census-of-words, reached-reachable, reached-proper, words-tell}
 use Rattle.configuration.specs.inner.Fits.{FlowFits, ProperWords}
@@ -22,16 +22,16 @@ use Rattle.cells.specs.inner.Entries.{Entries}
 use Rattle.search_table.specs.inner.Table.{wordGraph, wordsAt, tableOf, Complete}
 
 module _ {lo : ℤ} {w : ℕ} {flow : Flow} where
-  pub reached-path : {n : ℕ} {x : Words} → Attained lo w flow n x → Path (wordGraph lo w flow) n x
+  pub reached-path : {n : ℕ} {x : Words} → WordsReached lo w flow n x → Path (wordGraph lo w flow) n x
   unfolding wordGraph
   reached-path begin = here
   reached-path (further {n = n} r e) = onward {k = suc n} (reached-path r) e (omega arith)
 
-  pub path-reached : {n : ℕ} {x : Words} → Path (wordGraph lo w flow) n x → Attained lo w flow n x
+  pub path-reached : {n : ℕ} {x : Words} → Path (wordGraph lo w flow) n x → WordsReached lo w flow n x
   unfolding wordGraph
   path-reached here = begin
   path-reached (onward {n = n} {k = k} {y = y} p e q) =
-      let s : suc n ≡ k = omega arith in subst (λ (j : ℕ). Attained lo w flow j y) s (further (path-reached p) e)
+      let s : suc n ≡ k = omega arith in subst (λ (j : ℕ). WordsReached lo w flow j y) s (further (path-reached p) e)
 
 module _ {lo hi : ℤ} {w : ℕ} {flow : Flow} (f : FlowFits lo hi w flow) where
   -- ---- more words than cells are more configurations than cells
@@ -51,7 +51,7 @@ module _ {lo hi : ℤ} {w : ℕ} {flow : Flow} (f : FlowFits lo hi w flow) where
 
   -- ---- a finished table
   module _ {e : Entries} {n : ℕ} (t : Complete lo w flow e n) where
-    pub complete-census : Census lo hi flow (map (configurationOf lo w flow) (listed (wordsAt e) n))
+    pub complete-census : Census (Reachable lo hi flow) (map (configurationOf lo w flow) (listed (wordsAt e) n))
     unfolding tableOf
     complete-census =
         let c = table-census (t .sound) (t .closed) in

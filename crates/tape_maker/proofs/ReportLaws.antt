@@ -12,11 +12,12 @@ use Rattle.model.specs.Machine.{p-exit, m-exit}
 use Rattle.model.specs.Distance.{Says}
 use Rattle.flow.specs.Limits.{maxInstructions}
 use Rattle.flow.specs.Read.{Checked, ok, fault, all, inRange, isNamed, readFlow}
-use Rattle.flow.specs.Code.{rowOf, instructionOf, flowOf}
+use Rattle.flow.specs.Code.{rowOf}
 use Rattle.flow.specs.Legal.{Legal, head}
 use Rattle.flow.specs.declared.Refusal.{Refusal}
 use Rattle.flow.specs.declared.Refusal.the-variants.{TooFewCells}
 use Rattle.flow.specs.declared.Flow.{Flow as FlowRows}
+use Rattle.flow.specs.inner.Rows.{instructionOf, flowOf}
 use Rattle.configuration.specs.inner.Op.{opOf}
 use Rattle.configuration.specs.inner.Pattern.{Width}
 use Rattle.configuration.specs.inner.Place.{configurationOf}

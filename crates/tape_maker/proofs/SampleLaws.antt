@@ -9,11 +9,11 @@ use lib.ListN.{length, getD, take, List·getD-eq-default, length-map, length-tak
 use Rattle.model.specs.Language.{Flow, stop, instruction, hasExits, C1}
 use Rattle.model.specs.Machine.{Exit, exitIf}
 use Rattle.flow.specs.Read.{Checked, ok, fault, readFlow}
-use Rattle.flow.specs.Code.{instructionOf, flowOf}
 use Rattle.flow.specs.declared.Refusal.{Refusal}
 use Rattle.flow.specs.declared.Refusal.the-variants.{NoSuchExit, TooFewCells}
 use Rattle.flow.specs.declared.Instruction.{Instruction as Row}
 use Rattle.flow.specs.declared.Flow.{Flow as FlowRows}
+use Rattle.flow.specs.inner.Rows.{instructionOf, flowOf}
 use Rattle.cells.specs.Cells.{cellsOf, zeroed}
 use Rattle.cells.specs.inner.Columns.{nextField, columnsOf}
 use Rattle.cells.specs.inner.Entries.{entriesOf}

@@ -1,8 +1,8 @@
 // What a search needs of a flow.
 ghost use Prim.Native.Nat.{_≤_};
 ghost use Rattle.flow.specs.Limits.{maxInstructions};
-ghost use Rattle.flow.specs.Code.{flowOf};
 ghost use Rattle.flow.specs.Legal.{Legal};
+ghost use Rattle.flow.specs.inner.Rows.{flowOf};
 ghost use Rattle.configuration.specs.inner.Op.{opOf};
 ghost use Rattle.search_table.specs.inner.Passes.{blank};
 ghost use Rattle.tape_maker.specs.inner.Plan.{AllFitBytes, Each, Planned};

@@ -10,7 +10,6 @@ use Rattle.text.specs.Number.{natural}
 use Rattle.flow.specs.Limits.{maxInstructions}
 use Rattle.flow.specs.Words.{kindOf, sorts}
 use Rattle.flow.specs.Read.{Checked, ok, fault, check, given, all, inRange}
-use Rattle.flow.specs.Code.{instructionOf}
 use Rattle.flow.specs.inner.Reader.{small}
 use Rattle.flow.specs.declared.Head.{Head}
 use Rattle.flow.specs.declared.Instruction.{Instruction as Row}
@@ -22,6 +21,7 @@ use Rattle.flow.specs.declared.line.Begun.{Begun}
 use Rattle.flow.specs.declared.line.Begun.the-variants.{Shown, Fault as BegunFault}
 use Rattle.flow.specs.declared.line.Ended.{Ended}
 use Rattle.flow.specs.declared.line.Ended.the-variants.{Kept, Fault as EndedFault}
+use Rattle.flow.specs.inner.Rows.{instructionOf}
 
 -- the number without a minus in field k, as a byte keeps it
 abbrev pub smallIn : Small → Option ℕ

@@ -15,7 +15,7 @@ use Rattle.flow.specs.declared.Kind.{Kind}
 use Rattle.flow.specs.declared.Sort.{Sort}
 use Rattle.flow.specs.declared.Sort.the-variants.{Target, Tape, Output, Variable, Constant}
 use Rattle.flow.specs.Words.{count}
-use Rattle.flow.specs.Code.{kind, numbers, row, instructionOf, readingOf}
+use Rattle.flow.specs.Code.{kind, numbers, row, readingOf}
 use Rattle.flow.specs.declared.Head.{Head}
 use Rattle.flow.specs.declared.Instruction.{Instruction as Row}
 use Rattle.flow.specs.declared.Answer.{Answer}
@@ -31,6 +31,7 @@ use Rattle.flow.specs.declared.rows.Range.{Range}
 use Rattle.flow.specs.declared.rows.Range.the-variants.{Any, Within}
 use Rattle.flow.specs.declared.words.Word.{Word}
 use Rattle.flow.specs.declared.words.Word.the-variants.{Known, Unknown}
+use Rattle.flow.specs.inner.Rows.{instructionOf}
 
 abbrev pub small : ℕ → ℕ
 small n = min n 255

@@ -13,9 +13,9 @@ use lib.Signed.{ltZ}
 use lib.IntN.{ℤ, pos}
 use Rattle.model.specs.Language.{fields}
 use Rattle.flow.specs.Limits.{maxTapes, maxVariables}
-use Rattle.flow.specs.Code.{instructionOf}
 use Rattle.flow.specs.declared.Kind.{Kind}
 use Rattle.flow.specs.declared.Kind.the-variants.{Put, Copy, Set, Less, Over, Under, Nop}
+use Rattle.flow.specs.inner.Rows.{instructionOf}
 use Rattle.interpreter.proofs.ArrayLaws.{kinded, fits-kind, stepped}
 use Rattle.interpreter.proofs.step.Statement.{statement}
 use Rattle.interpreter.specs.inner.Arrays.{FieldsFit, RowFits, eitherOn, stops}

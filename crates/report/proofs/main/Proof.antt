@@ -2,15 +2,15 @@
 use mathlib.Core.Path.{subst}
 use native.Mathlib.Omega.{arith}
 use borrow.Author.Needs.{needs}
-use Rattle.report.specs.Input.{Filled}
+use Rattle.report.specs.Input.{FillsBuffer}
 use Rattle.report.proofs.main.Statement.{statement}
 use Rattle.report.proofs.main.Tie as tie
 
 part-print-report-end : tie.Need-part-print-report-end
-unfolding Filled
+unfolding FillsBuffer
 part-print-report-end c =
     let read = c .before .before .before .before .before .read-all in
-    omega (arith, subst (λ r. Filled r (read .last .1 .0)) (c .before .before .input .given .1) (read .ensures))
+    omega (arith, subst (λ r. FillsBuffer r (read .last .1 .0)) (c .before .before .input .given .1) (read .ensures))
 
 pub main-spec : {M : Type 1} → statement M
 main-spec =

@@ -30,7 +30,7 @@ use Rattle.search_table.specs.inner.Table.{Complete}
 use Rattle.search_table.specs.inner.Passes.{blank, Prepared, Walkable, takesAt, FirstIs}
 use Rattle.search_table.specs.inner.Way.{placeOn, Passable, opOn, countedOf, readsOn}
 use Rattle.sample_row.specs.inner.Reading.{tapesWritten}
-use Rattle.sample_row.specs.inner.WalkFits.{WalkFits as Laid}
+use Rattle.sample_row.specs.inner.WalkFits.{WalkFits}
 use Rattle.sample_row.specs.declared.Walk.{Walk}
 use Rattle.sample.specs.Written.{Written}
 
@@ -97,7 +97,7 @@ pub record Roomy (k : Course) (sizes : List ℕ) (cells : ℕ) : Type 0 where
 
 -- after t steps: the run on the tapes written so far, with four variables and three tapes, stands at the words of the way
 pub record Following (k : Course) (flow : Flow) (sizes : List ℕ) (old : List ℤ) (t : ℕ) (walk : Walk) (row : List ℤ) : Type 0 where
-  pub laid : Laid (k .lo) (k .hi) sizes walk row
+  pub laid : WalkFits (k .lo) (k .hi) sizes walk row
   pub counts : walk .counts ≡ readsAlong k t
   pub reads : ℕ
   pub follows : Follows (k .lo) (k .hi) (wider maxTapes maxVariables flow) t reads (tapesWritten walk row) (walk .values)

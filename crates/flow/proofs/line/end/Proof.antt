@@ -4,11 +4,12 @@ use borrow.Author.Needs.{needs}
 use borrow.Author.Tests.{eq-eqb, ne-eqb, not-true, not-false}
 use Rattle.model.specs.Language.{Instruction, fields}
 use Rattle.flow.specs.Read.{ok, all, inRange}
-use Rattle.flow.specs.Code.{row, instructionOf}
+use Rattle.flow.specs.Code.{row}
 use Rattle.flow.specs.inner.Line.{endLine}
 use Rattle.flow.proofs.RowLaws.{built-row}
 use Rattle.flow.proofs.line.end.Statement.{statement}
 use Rattle.flow.proofs.line.end.Tie as tie
+use Rattle.flow.specs.inner.Rows.{instructionOf}
 
 returns : tie.Need-returns
 unfolding endLine

@@ -11,11 +11,12 @@ use lib.IntN.{ℤ}
 use Rattle.model.specs.Language.{fields}
 use Rattle.flow.specs.Words.{built}
 use Rattle.flow.specs.Read.{all, isNamed, lostTarget}
-use Rattle.flow.specs.Code.{row, instructionOf}
+use Rattle.flow.specs.Code.{row}
 use Rattle.flow.specs.declared.Instruction.{Instruction as Row}
 use Rattle.flow.specs.declared.Kind.the-variants.{Read}
 use Rattle.flow.proofs.lines.check_targets.Statement.{statement}
 use Rattle.flow.proofs.lines.check_targets.Tie as tie
+use Rattle.flow.specs.inner.Rows.{instructionOf}
 
 abbrev Inv-loop : tie.InvT-loop
 Inv-loop count rows i₀ i = (i ≤ count) × (lostTarget count (i + 2) (drop i (map instructionOf (take count rows))) ≡ lostTarget count 2 (map instructionOf (take count rows)))

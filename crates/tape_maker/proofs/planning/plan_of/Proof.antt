@@ -7,7 +7,6 @@ use mir.Val.{SFits, toZ, ofZ}
 use mir.Facts.{toZ-ofZ}
 use lib.IntN.{ℤ, pos}
 use Rattle.model.specs.Language.{C1, C2}
-use Rattle.flow.specs.Code.{flowOf}
 use Rattle.configuration.specs.inner.Op.{offset, opOf, widthOf}
 use Rattle.configuration.specs.inner.Pattern.{lane}
 use Rattle.configuration.specs.inner.Step.{startOf}
@@ -18,6 +17,7 @@ use Rattle.tape_maker.specs.inner.Plan.{Each}
 use Rattle.tape_maker.proofs.ReportLaws.{rows-prepared, rows-bytes}
 use Rattle.tape_maker.proofs.planning.plan_of.Statement.{statement}
 use Rattle.tape_maker.proofs.planning.plan_of.Tie as tie
+use Rattle.flow.specs.inner.Rows.{flowOf}
 
 -- the least and the greatest constant, as they are passed on
 lo-is : (c : tie.After-width) → toZ w32 (ofZ w32 (c .before .before .before .before .before .range-of .result .lo)) ≡ C1 (flowOf (c .before .before .before .before .before .before .args .flow))

@@ -1,7 +1,6 @@
 -- `tape_maker::reporting::report_flow` meets its contract: the plan of the flow is searched, and what is found is answered.
 use borrow.Author.Needs.{needs}
 use Rattle.model.specs.Language.{C1}
-use Rattle.flow.specs.Code.{flowOf}
 use Rattle.cells.specs.Cells.{cellsOf}
 use Rattle.cells.specs.inner.Columns.{columnsOf}
 use denote.Ref.{now}
@@ -9,6 +8,7 @@ use Rattle.search.specs.inner.Search.{Finished}
 use Rattle.tape_maker.proofs.ReportLaws.{plan-subject, plan-wide, finished-walkable, search-done, search-full, done-searched, full-searched}
 use Rattle.tape_maker.proofs.reporting.report_flow.Statement.{statement}
 use Rattle.tape_maker.proofs.reporting.report_flow.Tie as tie
+use Rattle.flow.specs.inner.Rows.{flowOf}
 
 search-requires : tie.Need-search-requires
 search-requires c κs = plan-subject (c .before .before .before .plan-of .ensures)

@@ -9,7 +9,6 @@ use mir.Facts.{toZ-ofZ}
 use lib.ListN.{length}
 use Rattle.model.specs.Language.{C1}
 use Rattle.model.specs.Machine.{exitIf}
-use Rattle.flow.specs.Code.{flowOf}
 use Rattle.cells.specs.Cells.{cellsOf}
 use Rattle.cells.specs.inner.Columns.{columnsOf}
 use Rattle.cells.specs.inner.Entries.{entriesOf}
@@ -20,6 +19,7 @@ use Rattle.tape_maker.proofs.ReportLaws.{plan-subject, search-done, sea
 use Rattle.tape_maker.proofs.SampleLaws.{flow-exits, finished-tabled, finished-held, plain-answered, full-answered, done-answered}
 use Rattle.tape_maker.proofs.sampling.sample_flow.Statement.{statement}
 use Rattle.tape_maker.proofs.sampling.sample_flow.Tie as tie
+use Rattle.flow.specs.inner.Rows.{flowOf}
 
 returns : tie.Need-returns
 returns c =
