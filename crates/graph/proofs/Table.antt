@@ -1,5 +1,4 @@
--- A table of a breadth-first search: entries by index, each a node with its distance and the entry it was first met from. It is given by
--- functions of the index, so that rows, lists and records all make one. Machinery: inner contracts cite it, no promise does.
+-- Tables of a breadth-first search that grow: what is stored stays stored, and what is expanded stays expanded.
 use mathlib.Core.Path.{refl, _∙_, subst}
 use Prim.Native.Nat.{ℕ, _+_, _<_, _≤_}
 use native.Mathlib.Omega.{arith}

@@ -1,5 +1,4 @@
--- The nine instructions as five kinds: reads, sets, tests, goes on, stops. A term is a variable or a constant; variables and tapes are lanes,
--- counted from 0. Two laws tie the view to the language: it makes the same step and takes the same exit.
+-- A step by the view of an instruction. Two laws tie the view to the language: it makes the same step and takes the same exit.
 use mathlib.Core.Path.{_≡_, refl}
 use mathlib.Core.Bool.{true, cond}
 use mathlib.Core.List.{List, [], _∷_}
@@ -18,6 +17,7 @@ use Rattle.model.specs.inner.Lists.{All}
 use Rattle.model.specs.inner.Integers.{Inside}
 use Rattle.model.specs.inner.View.{Term, held, literal, View, reads, sets, tests, goes, stops, view, viewAt, term, Numbered, LegalFlow, Targeted}
 
+-- what is left of a tape; the states after an assignment and after a read
 abbrev pub onTape : State → ℕ → List ℤ
 onTape s a = getD (s .left) a []
 

@@ -1,4 +1,4 @@
--- What the cells hold, field by field: a column is one field of every cell. Machinery: inner contracts cite it, no promise does.
+-- What the cells hold, field by field: a column is one field of every cell.
 use mathlib.Core.Path.{_≡_}
 use mathlib.Core.List.{List, map}
 use Prim.Native.Nat.{ℕ, _+_, _*_}

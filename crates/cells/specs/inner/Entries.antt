@@ -1,4 +1,4 @@
--- The entries that the rows hold: a node, its distance, its parent and its bucket each. Machinery: inner contracts cite it, no promise does.
+-- The entries that the rows hold: a node, its distance, its parent and its bucket each.
 use mathlib.Core.Path.{_≡_}
 use mathlib.Core.Bool.{false}
 use mathlib.Core.List.{List}

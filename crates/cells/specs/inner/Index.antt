@@ -1,4 +1,4 @@
--- The index of the stored nodes, by chained hashing. Machinery: inner contracts cite it, no promise does.
+-- The index of the stored nodes, by chained hashing.
 use mathlib.Core.Path.{_≡_}
 use mathlib.Core.List.{List}
 use Prim.Native.Nat.{ℕ, _+_, _*_, _/_, _%_, _≤_, _<_}

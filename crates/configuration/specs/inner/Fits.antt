@@ -19,13 +19,15 @@ pub record Span (lo hi : ℤ) (w : ℕ) : Type 0 where
   pub zero : Inside lo hi (pos 0)
   pub edge : up lo + w + dn hi ≡ up hi + 1 + dn lo
 
+-- the whole number that the value x of a search stands for: `low`, 16, stands for lo
 abbrev pub real : ℤ → ℕ → ℤ
 real lo x = (lo +ℤ negsuc 15) +ℤ pos x
 
--- what is asked of a flow: the theory's demands, and that it fits the words
+-- a number that a place word has room for
 abbrev pub FitsPlace : ℕ → Type 0
 FitsPlace n = n < 128
 
+-- what is asked of a flow: the theory's demands, and that it fits the words
 pub record FlowFits (lo hi : ℤ) (w : ℕ) (flow : Flow) : Type 0 where
   pub span : Span lo hi w
   pub legal : LegalFlow lo hi flow
@@ -33,7 +35,8 @@ pub record FlowFits (lo hi : ℤ) (w : ℕ) (flow : Flow) : Type 0 where
   pub variables : flow .variables ≤ maxVariables
   pub targets : (i : ℕ) → Targeted FitsPlace (viewAt flow i)
 
--- words that stand for a configuration of the flow: the codes are those of values, and the lanes and bits that the flow does not name are 0
+-- words that stand for a configuration of the flow: the codes are those of values; a lane that the flow does not name
+-- holds the code of 0, and a bit that it does not name is 0
 pub record ProperWords (lo : ℤ) (w : ℕ) (flow : Flow) (x : Words) : Type 0 where
   pub again : Valid w (x .pattern)
   pub idle : drop (flow .variables) (lanes (x .pattern)) ≡ replicate (maxVariables - flow .variables) (offset (pos 0) lo)

@@ -1,4 +1,4 @@
--- Machinery that only inner contracts cite.
+-- Instructions prepared for a search, from the rows that hold them.
 use mathlib.Core.Path.{_≡_}
 use mathlib.Core.Bool.{Bool, true, false, not}
 use mathlib.Core.List.{List, map}

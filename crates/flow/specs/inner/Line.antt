@@ -1,4 +1,4 @@
--- One instruction line as the code reads it: before the numbers after its word, and once these are read. Only inner contracts cite this.
+-- One instruction line as the code reads it: before the numbers after its word, and once these are read.
 -- With the numbers between them, the two steps give what `readLine` says (`line-steps` of proofs/LineLaws.antt).
 use mathlib.Core.List.{List, []}
 use mathlib.Core.Option.{Option, none, some, Option·map}

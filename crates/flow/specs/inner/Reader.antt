@@ -1,4 +1,4 @@
--- Definitions that only inner contracts cite. The number of a line and the counts of line 1 are kept in a byte, the numbers of a row up to
+-- What the reader keeps and answers, part by part. The number of a line and the counts of line 1 are kept in a byte, the numbers of a row up to
 -- 100,000: a larger one is given as one that is past every range too, so that it changes no answer (proofs/ClampLaws.antt).
 use mathlib.Core.Bool.{cond}
 use mathlib.Core.List.{List, [], _∷_, _++_, map}

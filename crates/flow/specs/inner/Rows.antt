@@ -1,4 +1,4 @@
--- The flow that rows of the code hold.
+-- The instruction that a row holds, and the flow that rows hold.
 use mathlib.Core.List.{map}
 use lib.ListN.{take}
 use Rattle.model.specs.Language.{Instruction, Flow}
@@ -10,7 +10,6 @@ use Rattle.flow.specs.Code.{numbersIn}
 abbrev pub instructionOf : Row → Instruction
 instructionOf x = built (x .kind) (numbersIn x)
 
--- the flow that rows hold
 unfoldable pub flowOf : Rows → Flow
 flowOf rows = record {
   tapes = rows .tapes;

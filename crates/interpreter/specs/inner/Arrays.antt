@@ -1,4 +1,4 @@
--- What the code holds of a run. Machinery that only inner contracts cite.
+-- What the code holds of a run.
 use mathlib.Core.Path.{_≡_}
 use mathlib.Core.Bool.{Bool, true, false, cond}
 use mathlib.Core.List.{List, [], _∷_}

@@ -1,4 +1,4 @@
--- Runs as the theory follows them: where a run stands, with which tapes and values.
+-- Runs as the theory follows them: where a run stands, with which tapes and values; and the value beside which a new record goes.
 use mathlib.Core.Bool.{Bool, cond, _&&_}
 use mathlib.Core.List.{List, [], _∷_}
 use mathlib.Core.Path.{_≡_}
@@ -22,6 +22,7 @@ furthest less m x (a ∷ v) (b ∷ w) = furthest less (cond (less a x && less m 
 abbrev pub resting : Flow → ℕ → List ℤ → List Bool → State
 resting flow k v e = record { next = k; variables = v; left = replicate (flow .tapes) []; ended = e }
 
+-- how many records there are on tapes
 abbrev pub records : List (List ℤ) → ℕ
 records [] = 0
 records (t ∷ ts) = length t + records ts
@@ -40,5 +41,6 @@ pub record Follows (lo hi : ℤ) (flow : Flow) (n r : ℕ) (tapes : List (List �
   pub stands : RunStands lo hi flow n r tapes (c .next) v (c .ended)
   pub marks : pattern lo hi v ≡ c .marks
 
+-- a flow with so many tapes and variables
 abbrev pub wider : (nt nv : ℕ) → Flow → Flow
 wider nt nv flow = record { tapes = nt; outputs = flow .outputs; variables = nv; instructions = flow .instructions }

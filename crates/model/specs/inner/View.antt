@@ -31,10 +31,11 @@ view (under v c p m) = tests (held (v - 1)) (literal c) p m
 view (nop n) = goes n
 view stop = stops
 
+-- the view of instruction number i
 abbrev pub viewAt : Flow → ℕ → View
 viewAt flow i = view (instruction flow i)
 
--- the value in a lane, 0 past the end; a term's value; what is left of a tape
+-- the value in a lane, 0 past the end; and a term's value
 abbrev pub laneValue : List ℤ → ℕ → ℤ
 laneValue l i = getD l i (pos 0)
 
@@ -42,7 +43,7 @@ abbrev pub term : List ℤ → Term → ℤ
 term l (held u) = laneValue l u
 term l (literal c) = c
 
--- ---- what the theory asks of a flow: it names its own tapes and variables, counted from 1, and its constants and 0 lie from lo to hi
+-- what the theory asks of a flow: it names its own tapes and variables, counted from 1, and its constants and 0 lie from lo to hi
 abbrev pub Numbered : Flow → Field → Type 0
 Numbered flow (tape a) = (0 < a) × (a ≤ flow .tapes)
 Numbered flow (output y) = Unit {0}
@@ -55,6 +56,7 @@ pub record LegalFlow (lo hi : ℤ) (flow : Flow) : Type 0 where
   pub numbers : (i : ℕ) → All (Numbered flow) (fields (instruction flow i))
   pub constants-inside : (i : ℕ) (c : ℤ) → In c (constants (fields (instruction flow i))) → Inside lo hi c
 
+-- P of every instruction that a view goes on to
 abbrev pub Targeted : (ℕ → Type 0) → View → Type 0
 Targeted P (reads a v p m) = P p × P m
 Targeted P (sets t v n) = P n

@@ -1,4 +1,4 @@
--- The way through a finished table that a sample follows, and what is left in the row. Machinery of inner contracts.
+-- The way through a finished table that a sample follows, and what is left in the row.
 use mathlib.Core.Path.{_≡_}
 use mathlib.Core.Bool.{Bool, true}
 use mathlib.Core.List.{List}

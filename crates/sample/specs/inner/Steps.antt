@@ -1,4 +1,4 @@
--- What one step of a path does to the walk and the row. Machinery of inner contracts.
+-- What one step of a path does to the walk and the row.
 use mathlib.Core.Bool.{Bool, not, cond, _&&_}
 use mathlib.Core.List.{List, map}
 use Prim.Native.Nat.{ℕ, _<_}

@@ -1,5 +1,4 @@
 -- What passes over the entries of a table find: the first entry that takes an exit, and the distance that it gives.
--- Machinery of inner contracts.
 use mathlib.Core.Path.{_≡_}
 use mathlib.Core.Bool.{Bool, true, _&&_}
 use mathlib.Core.List.{List}

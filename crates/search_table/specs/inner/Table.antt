@@ -1,4 +1,4 @@
--- The table of configurations in the work cells, and the graph on words that it is a table of. Machinery of inner contracts.
+-- The table of configurations in the work cells, and the graph on words that it is a table of.
 use mathlib.Core.Option.{Option}
 use Prim.Native.Nat.{ℕ}
 use lib.IntN.{ℤ}

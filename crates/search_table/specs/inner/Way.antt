@@ -1,5 +1,5 @@
 -- The records that the tapes yield on a way through the table; `path` holds its entries. A step of a read takes a record exactly if its tape has not
--- ended where the step leads: a read that finds none ends its tape. Machinery of inner contracts.
+-- ended where the step leads: a read that finds none ends its tape.
 use mathlib.Core.Bool.{Bool, true, false, not, cond, _&&_}
 use mathlib.Core.List.{List}
 use Prim.Native.Nat.{ℕ, zero, suc, _+_, _-_, _<_, _≤_}

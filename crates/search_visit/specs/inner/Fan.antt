@@ -1,4 +1,4 @@
--- What an entry leads to: the fan of a read that finds a record, and the step that reads none. Machinery of inner contracts.
+-- What an entry leads to: the fan of a read that finds a record, and the step that reads none.
 use mathlib.Core.Path.{_≡_}
 use mathlib.Core.Bool.{Bool, true, false, not}
 use mathlib.Core.List.{List}

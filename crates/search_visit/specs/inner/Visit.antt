@@ -1,4 +1,4 @@
--- How the table of configurations grows. Machinery: inner contracts cite it, no promise does.
+-- How the table of configurations grows.
 use mathlib.Core.Path.{_≡_}
 use mathlib.Core.List.{List}
 use Prim.Native.Nat.{ℕ, _<_, _≤_}

@@ -1,4 +1,4 @@
--- Definitions that only inner contracts cite.
+-- What a legal flow is searched by, what a finished search gives a report, and arrays by instruction.
 use mathlib.Core.Path.{_≡_}
 use mathlib.Core.Bool.{Bool, true, false}
 use mathlib.Core.List.{List, _∷_, map}

@@ -1,4 +1,4 @@
--- The number reader's answer. Machinery that only inner contracts cite: numbers are of any size, code holds 64 bits, so the
+-- The number reader's answer: numbers are of any size, code holds 64 bits, so the
 -- reader gives each size above a cap as the cap. The cap lies above every range, that of 32-bit records too, so no test of
 -- a number against a range tells the two apart (proofs/Cap.antt).
 use mathlib.Core.Option.{Option, none, some}

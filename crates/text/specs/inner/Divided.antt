@@ -1,4 +1,4 @@
--- A line divided into its fields: how many it has, and where the first of them end. Machinery that only inner contracts cite.
+-- A line divided into its fields: how many it has, and where the first of them end.
 use mathlib.Core.Path.{_≡_}
 use mathlib.Core.List.{List, [], _∷_}
 use Prim.Native.Nat.{ℕ, zero, suc, _+_, _-_, _≤_, _<_}
