@@ -1,8 +1,8 @@
 #!/usr/bin/env python3
-"""Flow texts, and what each is read as, for the program `readings`.
+"""Flow texts, and what each is read as, for the program `test_readings`.
 
 The reader here is written from document 01 alone ("The flow text", "Where a request is turned back") and shares nothing with
-the crates. Without an argument the files of crates/readings are compared with what this script makes; with --write they are
+the crates. Without an argument the files of crates/test_readings are compared with what this script makes; with --write they are
 written.
 """
 import sys
@@ -242,14 +242,14 @@ case("order/line-2-with-7-line-3-with-6", flow("1,nop,0", "3,stop"))
 case("order/line-2-with-7-line-3-with-5", flow("1,nop,0", "2,set,1001,1,1"))
 
 
-# ---- the files of crates/readings
+# ---- the files of crates/test_readings
 
 def files():
-    made = {f"readings/data/{name}": text for name, text in CASES.items()}
-    made["readings/data/index"] = "".join(name + "\n" for name in CASES).encode()
-    made["readings/stdout"] = b"".join(name.encode() + b" " + read(text) for name, text in CASES.items())
+    made = {f"test_readings/data/{name}": text for name, text in CASES.items()}
+    made["test_readings/data/index"] = "".join(name + "\n" for name in CASES).encode()
+    made["test_readings/stdout"] = b"".join(name.encode() + b" " + read(text) for name, text in CASES.items())
     return made
 
 
 if __name__ == "__main__":
-    sys.exit(stored.compare(["readings"], files(), f"{len(CASES)} texts agree"))
+    sys.exit(stored.compare(["test_readings"], files(), f"{len(CASES)} texts agree"))

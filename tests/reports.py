@@ -1,8 +1,8 @@
 #!/usr/bin/env python3
-"""Flows with their reports, for the programs `reports` and `samples`.
+"""Flows with their reports, for the programs `test_reports` and `test_samples`.
 
 The reports are those of the plain searches of tests/searches.py, and the refusals of texts those of tests/readings.py; nothing
-comes from the crates. The searches are held to each other, and the files of crates/reports and crates/samples are compared with
+comes from the crates. The searches are held to each other, and the files of crates/test_reports and crates/test_samples are compared with
 what this script makes; with --write they are written.
 """
 import sys
@@ -340,7 +340,7 @@ def by_tapes(found):
 
 def files():
     """The data of a crate is a file of all its flows, each with its name before it and an empty line after it."""
-    made = dict.fromkeys(("reports/data/flows", "reports/stdout", "samples/data/flows", "samples/stdout"), "")
+    made = dict.fromkeys(("test_reports/data/flows", "test_reports/stdout", "test_samples/data/flows", "test_samples/stdout"), "")
     flows = []
     for topic, texts in TOPICS.items():
         for name, text in texts.items():
@@ -349,11 +349,11 @@ def files():
                 made[f"{crate}/stdout"] += f"{topic}/{name}\n{answer}"
             read = readings.read(text.encode()).decode()
             if read != text:
-                add("reports", read)
+                add("test_reports", read)
                 continue
             flows.append(Found(text))
-            add("reports", flows[-1].report())
-            add("samples", flows[-1].samples())
+            add("test_reports", flows[-1].report())
+            add("test_samples", flows[-1].samples())
     return made, flows
 
 
@@ -362,9 +362,9 @@ def main():
     bounded, listed = sum(map(by_bounds, flows)), sum(map(by_tapes, flows))
     for name, text in TOPICS["limit"].items():
         assert searches.configurations(text, CELLS + 1)[0] == int(name[-4:]), name
-    assert len(made["reports/data/flows"]) <= 131072, "the programs lend a row of that size"
+    assert len(made["test_reports/data/flows"]) <= 131072, "the programs lend a row of that size"
     agreed = f"{len(flows)} flows agree; {bounded} searched whole by bounds, {listed} by all short tapes"
-    return stored.compare(["reports", "samples"], {name: content.encode() for name, content in made.items()}, agreed)
+    return stored.compare(["test_reports", "test_samples"], {name: content.encode() for name, content in made.items()}, agreed)
 
 
 if __name__ == "__main__":
