@@ -35,7 +35,8 @@ static void try_exit(size_t n, uint64_t i, char exit) {
     }
     why = tilsando_run(text, n, distance, row, total, lengths, tapes, numbers, CELLS, values, CELLS, taken_p, EACH, taken_m, EACH, answer,
         TILSANDO_RUN_SIZE);
-    puts(!why && (exit == 'p' ? taken_p : taken_m)[i - 1] == 1 && answer[TILSANDO_RUN_STEPS] == distance ? ",taken" : ",NOT TAKEN");
+    int taken = (exit == 'p' ? taken_p : taken_m)[i - 1] == 1 && answer[TILSANDO_RUN_STEPS] == distance;
+    puts(!why && taken && answer[TILSANDO_RUN_END] != TILSANDO_FULL ? ",taken" : ",NOT TAKEN");
 }
 
 int main(int argc, char **argv) {
@@ -43,6 +44,8 @@ int main(int argc, char **argv) {
     if (!file)
         return 2;
     size_t n = fread(text, 1, sizeof text, file);
+    if (ferror(file))
+        return 2;
     uint32_t why = tilsando_report(text, n, cells, CELLS, two, EACH, p, EACH, m, EACH, answer, TILSANDO_REPORT_SIZE);
     if (why)
         return printf("refused,%" PRIu32 ",%" PRIu32 "\n", TILSANDO_NUMBER(why), TILSANDO_PLACE(why)), 0;

@@ -37,7 +37,7 @@ row k zs = record { kind = k; first = at zs 0; second = at zs 1; third = at zs 2
 abbrev pub numbersIn : Row → List ℤ
 numbersIn x = x .first ∷ x .second ∷ x .third ∷ x .fourth ∷ []
 
--- the row of an instruction, and the instruction of a row
+-- the row of an instruction
 abbrev pub rowOf : Instruction → Row
 rowOf x = row (kind x) (numbers x)
 

@@ -15,9 +15,9 @@ use tape_maker::ReportAnswer;
 use tape_maker::ReportEnd;
 
 // No report has more bytes.
-pub const MAX_BYTES: usize = 4096;
+pub const REPORT_BYTES: usize = 4096;
 
-pub type Row = [u8; MAX_BYTES];
+pub type Row = [u8; REPORT_BYTES];
 
 // The cells that a report is made with.
 pub const CELLS: usize = 4096;

@@ -39,7 +39,7 @@ fn read_all(fd: i32, buf: &mut [u8]) -> Input
 }
 
 fn print_report(text: &[u8]) {
-    let mut lines = [0u8; render::MAX_BYTES];
+    let mut lines = [0u8; render::REPORT_BYTES];
     let size = render::report_of(text, &mut lines);
     if !io::write_all(STDOUT_FILENO, &lines[0..size]) {
         io::write_all(

@@ -4,8 +4,8 @@ pub mod Parts
 pub mod Sized
 pub mod Folds
 pub mod Arms
+pub mod ChoiceLaws
+pub mod WalkInvariant
 pub mod Followed
 pub mod Sampled
 pub mod Spans
-pub mod ChoiceLaws
-pub mod WalkInvariant

@@ -35,14 +35,14 @@ pub fn exit(i: usize, p: bool) {
 }
 
 pub fn report(r: ReportAnswer) {
-    let mut lines = [0u8; render::MAX_BYTES];
+    let mut lines = [0u8; render::REPORT_BYTES];
     let n = render::report_text(r, &mut lines);
     print(&lines[0..n]);
 }
 
 // The report of a flow, with 4,096 cells lent.
 pub fn report_of(text: &[u8]) {
-    let mut lines = [0u8; render::MAX_BYTES];
+    let mut lines = [0u8; render::REPORT_BYTES];
     let n = render::report_of(text, &mut lines);
     print(&lines[0..n]);
 }

@@ -1,5 +1,5 @@
 -- `read_record` meets its contract: the test on the places is whether a record is left of the tape, and the two laws on a read
--- (HeldLaws) give the step. A record fits an i32, so that it is read as it is.
+-- (ArrayLaws) give the step. A record fits an i32, so that it is read as it is.
 use mathlib.Core.Path.{_≡_, ap, ap₂, subst}
 use Prim.Native.Nat.{ℕ, _+_, _-_, _≤_, _<_}
 use native.Mathlib.Omega.{arith}

@@ -1,4 +1,4 @@
--- `step` meets its contract: a row steps as the row of its kind does (`stepped` of HeldLaws), which the machine computes by itself.
+-- `step` meets its contract: a row steps as the row of its kind does (`stepped` of ArrayLaws), which the machine computes by itself.
 -- `stop` does not come here.
 use mathlib.Core.Path.{_≡_, refl, sym, ap, ap₂, _∙_}
 use mathlib.Core.Bool.{false≢true}

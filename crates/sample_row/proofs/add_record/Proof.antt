@@ -1,4 +1,4 @@
--- `tapes::add_record` meets its contract.
+-- `sample_row::add_record` meets its contract.
 use mathlib.Core.Path.{ap, ap₂, _∙_}
 use mathlib.Core.List.{List}
 use native.Mathlib.Numerals.{add-one}

@@ -1,4 +1,4 @@
--- `tapes::capped` meets its contract. The loop's invariant: the sum so far is that of the first i lengths, and does not pass the cap.
+-- `sample_row::capped` meets its contract. The loop's invariant: the sum so far is that of the first i lengths, and does not pass the cap.
 use mathlib.Core.Path.{_≡_, sym, _∙_}
 use Prim.Native.Nat.{_-_, _≤_}
 use native.Mathlib.Omega.{arith}

@@ -1,4 +1,4 @@
--- `tapes::first_walk` meets its contract.
+-- `sample_row::first_walk` meets its contract.
 use native.Mathlib.Omega.{arith}
 use borrow.Author.Needs.{needs}
 use Rattle.sample_row.proofs.Sized.{starts-fit}

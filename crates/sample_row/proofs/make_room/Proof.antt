@@ -1,4 +1,4 @@
--- `tapes::make_room` meets its contract.
+-- `sample_row::make_room` meets its contract.
 use mathlib.Core.Path.{ap, _∙_}
 use denote.Ref.{now}
 use lib.IntN.{ℤ}

@@ -1,4 +1,4 @@
--- `tapes::moved_values` meets its contract.
+-- `sample_row::moved_values` meets its contract.
 use mathlib.Core.Path.{ap, _∙_}
 use mathlib.Core.List.{map}
 use lib.IntN.{ℤ}

@@ -1,4 +1,4 @@
--- `tapes::put` meets its contract.
+-- `sample_row::put` meets its contract.
 use mathlib.Core.Path.{_∙_}
 use Prim.Native.Nat.{_-_}
 use native.Mathlib.Omega.{arith}

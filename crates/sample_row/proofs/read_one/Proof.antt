@@ -1,4 +1,4 @@
--- `tapes::read_one` meets its contract.
+-- `sample_row::read_one` meets its contract.
 use mathlib.Core.Path.{sym, ap, _∙_, subst}
 use denote.Ref.{now}
 use lib.IntN.{pos}

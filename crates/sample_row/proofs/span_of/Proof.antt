@@ -1,4 +1,4 @@
--- `tapes::span_of` meets its contract. The capped sum of all lengths says whether they reach past the row; if not, no sum is cut.
+-- `sample_row::span_of` meets its contract. The capped sum of all lengths says whether they reach past the row; if not, no sum is cut.
 use mathlib.Core.Path.{_≡_, sym, ap, _∙_}
 use Prim.Native.Nat.{ℕ, _-_, _≤_, _<_}
 use native.Mathlib.Omega.{arith}

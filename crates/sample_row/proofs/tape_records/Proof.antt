@@ -1,4 +1,4 @@
--- `tapes::tape_records` meets its contract: every part lies in its row.
+-- `sample_row::tape_records` meets its contract: every part lies in its row.
 use mathlib.Core.Path.{refl, ap}
 use Prim.Native.Nat.{_+_, _*_, _≤_}
 use native.Mathlib.Omega.{arith}

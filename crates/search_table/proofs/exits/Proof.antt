@@ -1,4 +1,4 @@
--- `exits` meets its contract: both columns list what the entries before k take (proofs/Passing.antt).
+-- `exits` meets its contract: both columns list what the entries before k take (proofs/PassInvariant.antt).
 use mathlib.Core.Path.{refl, sym, ap, _∙_, subst}
 use mathlib.Core.List.{List}
 use Prim.Native.Nat.{ℕ, _+_, _-_, _≤_}

@@ -1,4 +1,4 @@
--- `kept` meets its contract: an exit's number is set once (proofs/Passing.antt).
+-- `kept` meets its contract: an exit's number is set once (proofs/PassInvariant.antt).
 use borrow.Author.Needs.{needs}
 use Rattle.search_table.proofs.PassInvariant.{kept-new, kept-old}
 use Rattle.search_table.proofs.kept.Statement.{statement}

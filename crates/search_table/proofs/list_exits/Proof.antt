@@ -1,4 +1,4 @@
--- `list_exits` meets its contract: what is listed stays (proofs/Passing.antt).
+-- `list_exits` meets its contract: what is listed stays (proofs/PassInvariant.antt).
 use mathlib.Core.Path.{ap, _∙_}
 use mathlib.Core.Bool.{Bool, cond, _&&_}
 use native.Mathlib.Omega.{arith}

@@ -1,4 +1,4 @@
--- `takes` meets its contract: words that stand elsewhere take nothing, and else the exits are told (proofs/Passing.antt).
+-- `takes` meets its contract: words that stand elsewhere take nothing, and else the exits are told (proofs/PassInvariant.antt).
 use mathlib.Core.Path.{ap}
 use borrow.Author.Needs.{needs}
 use Rattle.model.specs.Machine.{p-exit, m-exit, exitIf}

@@ -1,4 +1,4 @@
--- `cases::empty_line` meets its contract: the first empty line is the same from each place that the loop reaches.
+-- `test_cases::empty_line` meets its contract: the first empty line is the same from each place that the loop reaches.
 use mathlib.Core.Path.{_≡_, refl}
 use Prim.Native.Nat.{_+_, _-_}
 use native.Mathlib.Omega.{arith}

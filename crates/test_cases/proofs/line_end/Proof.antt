@@ -1,4 +1,4 @@
--- `cases::line_end` meets its contract: past the file's end there is no byte.
+-- `test_cases::line_end` meets its contract: past the file's end there is no byte.
 use Prim.Native.Nat.{_≤_}
 use native.Mathlib.Omega.{arith}
 use borrow.Author.Needs.{needs}

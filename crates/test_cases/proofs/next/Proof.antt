@@ -1,4 +1,4 @@
--- `cases::next` meets its contract, place by place.
+-- `test_cases::next` meets its contract, place by place.
 use borrow.Author.Needs.{needs}
 use denote.Ref.{now}
 use Rattle.test_cases.proofs.Laws.{next-is}

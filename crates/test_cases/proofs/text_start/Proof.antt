@@ -1,4 +1,4 @@
--- `cases::text_start` meets its contract: the test of the definition is the code's.
+-- `test_cases::text_start` meets its contract: the test of the definition is the code's.
 use borrow.Author.Needs.{needs}
 use borrow.Author.Tests.{lt-ltb, le-ltb}
 use Rattle.test_cases.proofs.text_start.Statement.{statement}

@@ -1,4 +1,4 @@
--- `tapes::choices::choice_for` meets its contract.
+-- `sample_row::choices::choice_for` meets its contract.
 use mathlib.Core.Path.{ap, _∙_}
 use lib.IntN.{ℤ, pos}
 use lib.ListN.{set}

@@ -1,4 +1,4 @@
--- `tapes::choices::choose` meets its contract.
+-- `sample_row::choices::choose` meets its contract.
 use mathlib.Core.Path.{ap, _∙_}
 use mir.Facts.{toZ-ofZ}
 use borrow.Author.Needs.{needs}

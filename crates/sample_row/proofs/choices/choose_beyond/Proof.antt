@@ -1,4 +1,4 @@
--- `tapes::choices::choose_beyond` meets its contract.
+-- `sample_row::choices::choose_beyond` meets its contract.
 use mathlib.Core.Path.{_≡_, ap, _∙_}
 use native.Mathlib.Omega.{arith}
 use lib.ListN.{length}

@@ -1,4 +1,4 @@
--- `tapes::choices::first_at` meets its contract. The loop's invariant: the first place in the rest is the first place.
+-- `sample_row::choices::first_at` meets its contract. The loop's invariant: the first place in the rest is the first place.
 use mathlib.Core.Path.{_≡_, refl, sym, ap, _∙_}
 use mathlib.Core.Bool.{true, false}
 use Prim.Native.Nat.{_-_, _≤_}

@@ -1,4 +1,4 @@
--- `tapes::choices::furthest` meets its contract. The loop's invariant: the furthest of m and the rest is the furthest of all.
+-- `sample_row::choices::furthest` meets its contract. The loop's invariant: the furthest of m and the rest is the furthest of all.
 use mathlib.Core.Path.{_≡_, refl, sym, ap, ap₂, _∙_}
 use mathlib.Core.Bool.{cond, _&&_}
 use Prim.Native.Nat.{_+_, _-_, _≤_}

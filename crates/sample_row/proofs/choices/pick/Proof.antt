@@ -1,4 +1,4 @@
--- `tapes::choices::pick` meets its contract.
+-- `sample_row::choices::pick` meets its contract.
 use mathlib.Core.Path.{sym, _∙_}
 use mir.Facts.{toZ-ofZ}
 use borrow.Author.Needs.{needs}

@@ -1,4 +1,4 @@
--- `tapes::choices::record_of` meets its contract.
+-- `sample_row::choices::record_of` meets its contract.
 use mathlib.Core.Path.{ap, _∙_}
 use mir.Syntax.{w32}
 use mir.Facts.{toZ-ofZ}

@@ -1,4 +1,4 @@
--- `tapes::choices::same` meets its contract.
+-- `sample_row::choices::same` meets its contract.
 use mir.Facts.{toZ-ofZ}
 use Rattle.sample_row.proofs.choices.same.Statement.{statement}
 use Rattle.sample_row.proofs.choices.same.Tie as tie

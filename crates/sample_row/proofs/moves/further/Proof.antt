@@ -1,4 +1,4 @@
--- `tapes::moves::further` meets its contract.
+-- `sample_row::moves::further` meets its contract.
 use mir.Facts.{toZ-ofZ}
 use Rattle.sample_row.proofs.moves.further.Statement.{statement}
 use Rattle.sample_row.proofs.moves.further.Tie as tie

@@ -1,4 +1,4 @@
--- `tapes::moves::moved_one` meets its contract.
+-- `sample_row::moves::moved_one` meets its contract.
 use mathlib.Core.Path.{sym, _∙_}
 use mir.Syntax.{w32}
 use mir.Facts.{toZ-ofZ}

@@ -1,4 +1,4 @@
--- `tapes::moves::outward` meets its contract.
+-- `sample_row::moves::outward` meets its contract.
 use mir.Facts.{toZ-ofZ}
 use Rattle.sample_row.proofs.Bits.{fits-more, fits-less}
 use Rattle.sample_row.proofs.moves.outward.Statement.{statement}

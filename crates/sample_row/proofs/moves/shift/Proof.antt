@@ -1,4 +1,4 @@
--- `tapes::moves::shift` meets its contract. The loop's invariant: the first i numbers are moved.
+-- `sample_row::moves::shift` meets its contract. The loop's invariant: the first i numbers are moved.
 use mathlib.Core.Path.{_≡_, refl, ap, _∙_}
 use Prim.Native.Nat.{_-_, _≤_}
 use native.Mathlib.Omega.{arith}

@@ -1,4 +1,4 @@
--- `tapes::moves::shift_all` meets its contract. The loop's invariant: with the parts from a on still to do, the whole is what was asked.
+-- `sample_row::moves::shift_all` meets its contract. The loop's invariant: with the parts from a on still to do, the whole is what was asked.
 use mathlib.Core.Path.{_≡_, refl, sym, ap, _∙_, subst}
 use Prim.Native.Nat.{_+_, _-_, _≤_}
 use native.Mathlib.Omega.{arith}

@@ -1,4 +1,4 @@
--- `tapes::moves::shift_part` meets its contract.
+-- `sample_row::moves::shift_part` meets its contract.
 use mathlib.Core.Path.{sym, _∙_, subst}
 use Prim.Native.Nat.{ℕ}
 use denote.Ref.{now}
