@@ -1,46 +1,39 @@
 -- `put` meets its contract: only a put writes, and its variable is one of four.
 use mathlib.Core.Path.{_≡_, refl, sym, ap, _∙_}
 use mathlib.Core.Bool.{true}
-use Prim.Native.Nat.{ℕ, _-_, _≤_}
+use Prim.Native.Nat.{ℕ, _-_, _≤_, _<_}
 use native.Mathlib.Omega.{arith}
 use borrow.Author.Needs.{sfits-of, needs}
 use mir.Facts.{toZ-ofZ}
 use mir.Syntax.{w32}
 use denote.Ref.{now}
-use lib.ListN.{getD, set}
+use lib.ListN.{length, getD, set}
 use lib.IntN.{ℤ, pos}
 use Rattle.interpreter.proofs.ArrayLaws.{fits-put}
 use Rattle.interpreter.proofs.put.Statement.{statement}
 use Rattle.interpreter.specs.inner.Arrays.{countAt, outputs}
 use Rattle.interpreter.proofs.put.Tie as tie
 
+-- ---- the places: where the function began, where the instruction is a put, and what it puts
+abbrev began : tie.Then1 → tie.Start
+began t = t .before .before .before
+
+abbrev writing : tie.After-count2 → tie.Then1
+writing c = c .before .before .before
+
 -- the instruction is a put
-puts-it : (c : tie.Then1) → outputs (c .before .before .before .args .x .kind) ≡ true
-puts-it c = sym (c .before .is-put .ensures) ∙ c .if1 .taken
+puts-it : (t : tie.Then1) → outputs (began t .args .x .kind) ≡ true
+puts-it t = sym (t .before .is-put .ensures) ∙ t .if1 .taken
 
-fits-it : (c : tie.Then1) → let x = c .before .before .before .args .x in ((1 ≤ countAt x 0) × (countAt x 0 ≤ 4)) × ((1 ≤ countAt x 1) × (countAt x 1 ≤ 255))
-fits-it c = let a = c .before .before .before in fits-put (a .args .x) (puts-it c) (a .pre .0)
+fits-it : (t : tie.Then1) → let x = began t .args .x in ((1 ≤ countAt x 0) × (countAt x 0 ≤ 4)) × ((1 ≤ countAt x 1) × (countAt x 1 ≤ 255))
+fits-it t = fits-put (began t .args .x) (puts-it t) (began t .pre .0)
 
-value-requires : tie.Need-value-requires
-value-requires c κs = omega (arith, c .count .ensures, fits-it (c .before))
-
-cast-tape : tie.Need-cast-tape
-cast-tape c = record { fits = omega (arith, c .count2 .ensures, fits-it (c .before .before .before)) }
-
-slice-write-numbers : tie.Need-slice-write-numbers
-slice-write-numbers c = c .before .before .before .before .before .before .pre .1 (puts-it (c .before .before .before)) .0
-
-mul-y : tie.Need-mul-y
-mul-y c = omega (arith, c .before .before .before .before .before .before .pre .1 (puts-it (c .before .before .before)))
-
-slice-set-from-y : tie.Need-slice-set-from-y
-slice-set-from-y c = c .before .before .before .before .before .before .pre .1 (puts-it (c .before .before .before)) .1
-
-add-result : tie.Need-add-result
-add-result c = omega (arith, c .before .before .before .before .before .before .pre .1 (puts-it (c .before .before .before)))
+-- both rows have a free cell
+room : (t : tie.Then1) → let a = began t .args in (a .puts < length (now (a .numbers))) × (a .puts < length (now (a .values)))
+room t = began t .pre .1 (puts-it t)
 
 returns : tie.Need-returns
-returns c = let e = puts-it (c .before .before .before) in let a = c .before .before .before .before .before .before .args in let v = c .before in (
+returns c = let e = puts-it (writing c) in let a = began (writing c) .args in let v = c .before in (
   rw e refl,
   (
     rw e (ap (λ (n : ℕ). set (now (a .numbers)) (a .puts) n) (c .count2 .ensures)),
@@ -59,13 +52,13 @@ put-spec =
     (tie.spec
     (λ c κs. search needs)
     (λ c κs. (omega arith, fits-it c .0 .0))
-    value-requires
+    (λ c κs. omega (arith, c .count .ensures, fits-it (c .before)))
     (λ c κs. (omega arith, fits-it (c .before .before) .1 .0))
-    cast-tape
-    slice-write-numbers
-    mul-y
-    slice-set-from-y
-    add-result
+    (λ c. record { fits = omega (arith, c .count2 .ensures, fits-it (writing c)) })
+    (λ c. room (writing c) .0)
+    (λ c. omega (arith, room (writing c)))
+    (λ c. room (writing c) .1)
+    (λ c. omega (arith, room (writing c)))
     (λ c. search needs)
     (λ c. search needs)
     returns

@@ -16,6 +16,10 @@ use Rattle.interpreter.proofs.read_record.Statement.{statement}
 use Rattle.interpreter.specs.inner.Arrays.{RowFits, countAt}
 use Rattle.interpreter.proofs.read_record.Tie as tie
 
+-- ---- the place where the tape and the variable are counted, from the test on
+abbrev fields : tie.After-if12 → tie.After-count2
+fields c = c .before .before
+
 -- the tape, the variable and the targets of the read
 names : (x : Row) → x .kind ≡ Read → RowFits x
     → ((1 ≤ countAt x 0) × (countAt x 0 ≤ 3)) × ((1 ≤ countAt x 1) × (countAt x 1 ≤ 4)) × ((1 ≤ countAt x 2) × (1 ≤ countAt x 3))
@@ -39,7 +43,7 @@ sub-j c = omega (arith, c .count2 .ensures, named (c .before .before))
 -- a record is left
 module _ (c : tie.Else1) where
   abbrev counted : tie.After-count
-  counted = c .before .before .before .before
+  counted = fields (c .before) .before
 
   abbrev it : tie.Start
   it = counted .before
@@ -48,7 +52,7 @@ module _ (c : tie.Else1) where
   inside = c .if1 .left
 
 returns : tie.Need-returns
-returns c = let k = c .before .before .before .before .before in let a = k .before in
+returns c = let k = fields (c .before .before) .before in let a = k .before in
     read-none (a .args .x) _ _ _ _ (a .pre .0) (a .pre .1 .1) (omega (arith, named a))
     (subst (λ (n : ℕ). getD (now (a .args .ends)) (n - 1) 0 ≤ getD (now (a .args .at)) (n - 1) 0) (k .count .ensures) (c .before .if1 .taken))
     (c .either .ensures)
@@ -67,7 +71,7 @@ returns-2 c = let y = c .before in let k = counted (y .before) in let a = k .bef
     read-some (a .args .x) _ _ _ _ (a .pre .0) (a .pre .1 .1) (omega (arith, named a))
     (getD (now (a .args .at)) (n - 1) 0) (ap (λ (i : ℕ). getD (now (a .args .at)) (i - 1) 0) (k .count .ensures))
     (subst (λ (i : ℕ). getD (now (a .args .at)) (n - 1) 0 < getD (now (a .args .ends)) (i - 1) 0) (k .count .ensures) (inside (y .before)))
-    (ap₂ (λ (i : ℕ) (y : ℤ). set (now (a .args .variables)) (i - 1) y) (y .before .before .before .before .count2 .ensures) (toZ-ofZ {w = w32} (sfits-of (y .y .given))))
+    (ap₂ (λ (i : ℕ) (y : ℤ). set (now (a .args .variables)) (i - 1) y) (fields (y .before .before) .count2 .ensures) (toZ-ofZ {w = w32} (sfits-of (y .y .given))))
     (ap (λ (i : ℕ). set (now (a .args .at)) (i - 1) (getD (now (a .args .at)) (n - 1) 0 + 1)) (k .count .ensures))
     (c .either2 .ensures)
 
@@ -83,14 +87,14 @@ read-record-spec =
     (λ c. omega (arith, taped (c .before)))
     (λ c. omega (arith, taped (c .before .before)))
     (λ c. omega (arith, taped (c .before .before)))
-    (λ c κs. named (c .before .before .before .before .before) .2)
+    (λ c κs. named (fields (c .before) .before .before) .2)
     returns
     add-at
     (λ c. omega (arith, taped (counted c)))
     (λ c. omega (arith, taped (counted c)))
     mul-y
     shared-slice-copy-out-y
-    (λ c. omega (arith, c .before .before .before .before .count2 .ensures, named (it (c .before))))
-    (λ c. omega (arith, c .before .before .before .before .count2 .ensures, named (it (c .before))))
+    (λ c. omega (arith, fields (c .before .before) .count2 .ensures, named (it (c .before))))
+    (λ c. omega (arith, fields (c .before .before) .count2 .ensures, named (it (c .before))))
     (λ c κs. named (it (c .before)) .2)
     returns-2)

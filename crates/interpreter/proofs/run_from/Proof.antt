@@ -28,88 +28,93 @@ abbrev μ-loop : tie.MeasureT-loop
 μ-loop limit records cells numbers₀ values₀ flow ends next₀ variables₀ at₀ p₀ m₀ steps₀ puts₀ numbers values next variables at p m steps puts =
     limit - steps
 
+-- ---- the places of a turn: where the run began, where the turn began, the tests passed, and the calls
+abbrev began : tie.At-loop Inv-loop μ-loop → tie.Start Inv-loop μ-loop
+began l = l .before .before
+
+abbrev turn : tie.After-is-stop Inv-loop μ-loop → tie.At-loop Inv-loop μ-loop
+turn c = c .before .before
+
+abbrev going : tie.After-is-full Inv-loop μ-loop → tie.Else1 Inv-loop μ-loop
+going c = c .before .before
+
+abbrev putting : tie.After-put-arg2 Inv-loop μ-loop → tie.Else3 Inv-loop μ-loop
+putting c = c .before .before .before
+
+abbrev put-then : tie.After-ends Inv-loop μ-loop → tie.After-put Inv-loop μ-loop
+put-then c = c .before .before .before .before .before .before
+
+abbrev step-then : tie.After-m Inv-loop μ-loop → tie.After-step Inv-loop μ-loop
+step-then c = c .before .before
+
+abbrev passed : tie.After-m Inv-loop μ-loop → tie.Else3 Inv-loop μ-loop
+passed c = putting (put-then (step-then c .before) .before)
+
+-- ---- what is known there
 -- what stands past the rows
 abbrev past : Row
 past = row Read []
 
 -- the next instruction, and what the three tests before a step have shown
 abbrev coming : tie.At-loop Inv-loop μ-loop → Row
-coming c = getD (c .before .before .args .t1 .instructions) (c .loop .next - 1) past
+coming l = getD (began l .args .t1 .instructions) (l .loop .next - 1) past
 
-goes : (c : tie.Else1 Inv-loop μ-loop) → stops (coming (c .before .before .before) .kind) ≡ false
+goes : (c : tie.Else1 Inv-loop μ-loop) → stops (coming (turn (c .before)) .kind) ≡ false
 goes c = sym (c .before .is-stop .ensures) ∙ c .if1 .left
 
-more : (c : tie.Else2 Inv-loop μ-loop) → let l = c .before .before .before .before in l .loop .steps < l .before .before .args .limit
-more c = let l = c .before .before .before .before in strictly _ _ (l .loop .inv .within) (c .if2 .left)
+more : (c : tie.Else2 Inv-loop μ-loop) → let l = turn (c .before .before) in l .loop .steps < began l .args .limit
+more c = strictly _ _ (turn (c .before .before) .loop .inv .within) (c .if2 .left)
   where
     strictly : (n k : ℕ) → n ≤ k → (n ≡ k → ⊥) → n < k
     strictly n k h e = omega arith
 
-free : (c : tie.Else3 Inv-loop μ-loop) → let l = c .before .before .before .before .before .before in
-    outputs (coming l .kind) && leb (l .before .before .args .cells) (l .loop .puts) ≡ false
+free : (c : tie.Else3 Inv-loop μ-loop) → let l = turn (going (c .before) .before) in
+    outputs (coming l .kind) && leb (began l .args .cells) (l .loop .puts) ≡ false
 free c = sym (c .before .is-full .ensures) ∙ c .if3 .left
 
 -- the rows keep their lengths
-kept : (l : tie.At-loop Inv-loop μ-loop) → let a = l .before .before .args in
+kept : (l : tie.At-loop Inv-loop μ-loop) → let a = began l .args in
     (length (l .loop .numbers) ≡ length (now (a .numbers))) × (length (l .loop .values) ≡ length (now (a .values)))
-kept l = let a = l .before .before in rows-kept _ _ _ _ _ _ _ _ (a .pre .0) (a .pre .1 .1 .1) _ _ (l .loop .inv) past
+kept l = let a = began l in rows-kept _ _ _ _ _ _ _ _ (a .pre .0) (a .pre .1 .1 .1) _ _ (l .loop .inv) past
 
 -- the row of the next instruction names tapes and variables that there are
 fits : (l : tie.At-loop Inv-loop μ-loop) → RowFits (coming l)
-fits l = row-fits (l .before .before .args .t1) (l .loop .next) (l .loop .inv .shows .named) past (l .before .before .pre .0)
+fits l = row-fits (began l .args .t1) (l .loop .next) (l .loop .inv .shows .named) past (began l .pre .0)
 
--- the turn that a place at its end belongs to
-abbrev turning : tie.After-count Inv-loop μ-loop → tie.Else3 Inv-loop μ-loop
-turning c = c .before .before .before .before .before .before .before .before .before .before .before .before .before .before
-
+-- ---- the needs
 loop-holds : tie.Need-loop-holds Inv-loop μ-loop
 loop-holds c = let a = c .before in running-start _ _ _ _ _ _ _ _ (a .pre .0) (a .pre .1 .1 .0)
 
-sub-i : tie.Need-sub-i Inv-loop μ-loop
-sub-i c = c .loop .inv .shows .named .0
-
-mul-x : tie.Need-mul-x Inv-loop μ-loop
-mul-x c = omega (arith, c .loop .inv .shows .named, c .before .before .pre .0 .size)
-
-element-copy-out-x : tie.Need-element-copy-out-x Inv-loop μ-loop
-element-copy-out-x c = omega (arith, c .loop .inv .shows .named, c .before .before .pre .0 .size)
-
 put-requires : tie.Need-put-requires Inv-loop μ-loop
-put-requires c κs = let e = c .before .before .before in
-    let l = e .before .before .before .before .before .before in let a = l .before .before in (
-      fits l,
-      cell-free _ _ _ _ _ _ _ _ (a .pre .0) (a .pre .1 .1 .1) _ _ (l .loop .inv) past (free e),
-    )
+put-requires c κs = let e = putting c in let l = turn (going (e .before) .before) in let a = began l in (
+  fits l,
+  cell-free _ _ _ _ _ _ _ _ (a .pre .0) (a .pre .1 .1 .1) _ _ (l .loop .inv) past (free e),
+)
 
 step-requires : tie.Need-step-requires Inv-loop μ-loop
-step-requires c κs = let e = c .before .before .before .before .before .before .before .before .before .before in
-    let l = e .before .before .before .before .before .before in let a = l .before .before in
-    (goes (e .before .before .before), (fits l, l .loop .inv .shows .placed))
+step-requires c κs = let g = going (putting (put-then c .before) .before) in let l = turn (g .before) in
+    (goes g, (fits l, l .loop .inv .shows .placed))
 
 count-requires : tie.Need-count-requires Inv-loop μ-loop
-count-requires c κs = let e = c .before .before .before .before .before .before .before .before .before .before .before .before .before in
-    let l = e .before .before .before .before .before .before in let a = l .before .before in (
-      omega (arith, l .loop .inv .shows .named, a .pre .0 .size),
-      counts-below _ _ _ _ _ _ _ _ (a .pre .0) (a .pre .1 .1 .1) _ _ (l .loop .inv) past (more (e .before .before)) (a .pre .1 .0),
-    )
+count-requires c κs = let f = passed c .before in let l = turn (going f .before) in let a = began l in (
+  omega (arith, l .loop .inv .shows .named, a .pre .0 .size),
+  counts-below _ _ _ _ _ _ _ _ (a .pre .0) (a .pre .1 .1 .1) _ _ (l .loop .inv) past (more (f .before)) (a .pre .1 .0),
+)
 
 add-steps : tie.Need-add-steps Inv-loop μ-loop
-add-steps c = let e = turning c in
-    let l = e .before .before .before .before .before .before in let a = l .before .before in omega (arith, more (e .before .before), a .pre .1 .0)
+add-steps c = let f = passed (c .before) .before in omega (arith, more (f .before), began (turn (going f .before)) .pre .1 .0)
 
 loop-less : tie.Need-loop-less Inv-loop μ-loop
-loop-less c = let e = turning c in less _ _ (more (e .before .before))
+loop-less c = less _ _ (more (passed (c .before) .before .before))
   where
     less : (n k : ℕ) → n < k → k - (n + 1) < k - n
     less n k h = omega arith
 
 loop-again : tie.Need-loop-again Inv-loop μ-loop
-loop-again c = let e = turning c in
-    let l = e .before .before .before .before .before .before in let a = l .before .before in
-    let u = c .before .before .before in
-    let w = u .before .before .before .before .before .before .before in
-    running-on _ _ _ _ _ _ _ _ (a .pre .0) (a .pre .1 .1 .1) _ _ (l .loop .inv) past (more (e .before .before))
-    (goes (e .before .before .before)) (free e)
+loop-again c = let e = passed (c .before) in let g = going (e .before) in let l = turn (g .before) in let a = began l in
+    let u = step-then (c .before) in
+    let w = put-then (u .before) in
+    running-on _ _ _ _ _ _ _ _ (a .pre .0) (a .pre .1 .1 .1) _ _ (l .loop .inv) past (more (e .before .before)) (goes g) (free e)
     (record {
       puts = w .put .ensures .0;
       numbers = w .put .ensures .1 .0;
@@ -120,35 +125,17 @@ loop-again c = let e = turning c in
       next = refl;
     })
 
-same-length : tie.Need-same-length Inv-loop μ-loop
-same-length c = kept (c .before .before .before) .0
-
-same-length-2 : tie.Need-same-length-2 Inv-loop μ-loop
-same-length-2 c = kept (c .before .before .before) .1
-
 returns : tie.Need-returns Inv-loop μ-loop
-returns c = let l = c .before .before .before in let a = l .before .before in
+returns c = let l = turn (c .before) in let a = began l in
     ends-stopped _ _ _ _ _ _ _ _ (a .pre .0) (a .pre .1 .1 .1) _ _ (l .loop .inv) past (sym (c .before .is-stop .ensures) ∙ c .if1 .taken)
 
-same-length-3 : tie.Need-same-length-3 Inv-loop μ-loop
-same-length-3 c = kept (c .before .before .before .before) .0
-
-same-length-4 : tie.Need-same-length-4 Inv-loop μ-loop
-same-length-4 c = kept (c .before .before .before .before) .1
-
 returns-2 : tie.Need-returns-2 Inv-loop μ-loop
-returns-2 c = let l = c .before .before .before .before in let a = l .before .before in
+returns-2 c = let l = turn (c .before .before) in let a = began l in
     ends-spent _ _ _ _ _ _ _ _ (a .pre .0) (a .pre .1 .1 .1) _ _ (l .loop .inv) past (goes (c .before)) (c .if2 .taken)
 
-same-length-5 : tie.Need-same-length-5 Inv-loop μ-loop
-same-length-5 c = kept (c .before .before .before .before .before .before) .0
-
-same-length-6 : tie.Need-same-length-6 Inv-loop μ-loop
-same-length-6 c = kept (c .before .before .before .before .before .before) .1
-
 returns-3 : tie.Need-returns-3 Inv-loop μ-loop
-returns-3 c = let l = c .before .before .before .before .before .before in let a = l .before .before in
-    ends-full _ _ _ _ _ _ _ _ (a .pre .0) (a .pre .1 .1 .1) _ _ (l .loop .inv) past (goes (c .before .before .before)) (more (c .before .before))
+returns-3 c = let g = going (c .before) in let l = turn (g .before) in let a = began l in
+    ends-full _ _ _ _ _ _ _ _ (a .pre .0) (a .pre .1 .1 .1) _ _ (l .loop .inv) past (goes g) (more (c .before .before))
     (sym (c .before .is-full .ensures) ∙ c .if3 .taken)
 
 pub run-from-spec : {M : Type 1} → statement M
@@ -158,9 +145,9 @@ run-from-spec =
     Inv-loop
     μ-loop
     loop-holds
-    sub-i
-    mul-x
-    element-copy-out-x
+    (λ c. c .loop .inv .shows .named .0)
+    (λ c. omega (arith, c .loop .inv .shows .named, began c .pre .0 .size))
+    (λ c. omega (arith, c .loop .inv .shows .named, began c .pre .0 .size))
     (λ c κs. search needs)
     (λ c κs. search needs)
     put-requires
@@ -169,12 +156,12 @@ run-from-spec =
     add-steps
     loop-less
     loop-again
-    same-length
-    same-length-2
+    (λ c. kept (turn (c .before)) .0)
+    (λ c. kept (turn (c .before)) .1)
     returns
-    same-length-3
-    same-length-4
+    (λ c. kept (turn (c .before .before)) .0)
+    (λ c. kept (turn (c .before .before)) .1)
     returns-2
-    same-length-5
-    same-length-6
+    (λ c. kept (turn (going (c .before) .before)) .0)
+    (λ c. kept (turn (going (c .before) .before)) .1)
     returns-3)
