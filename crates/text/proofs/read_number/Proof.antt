@@ -14,6 +14,13 @@ use Rattle.text.proofs.Digits.{minus-bad, minus-fits, minus-zero, minus
 use Rattle.text.proofs.read_number.Statement.{statement}
 use Rattle.text.proofs.read_number.Tie as tie
 
+-- ---- the places: where the function began, and where the field begins with a minus
+abbrev began : tie.Else2 → tie.Start
+began c = c .before .before .before .before
+
+abbrev signed : tie.After-read-natural2 → tie.Else2
+signed c = c .before .before .before
+
 returns : tie.Need-returns
 unfolding cappedNumber
 returns c =
@@ -28,20 +35,19 @@ returns-2 c =
 returns-3 : tie.Need-returns-3
 unfolding cappedNumber
 returns-3 c =
-    let a = c .before .before .before .before .before .args in
+    let a = began (c .before) .args in
     sym (ap cappedNumber (numeral-barred (a .minus) (now (a .f)) (omega arith) (c .before .if2 .left) (not-true _ (c .if3 .taken))))
 
 -- what stands behind the minus, read as a size; the field is that size below 0
 abbrev size : tie.After-read-natural2 → Option ℕ
-size c = natural (digitsBehind (now (c .before .before .before .before .before .before .before .args .f)))
+size c = natural (digitsBehind (now (began (signed c) .args .f)))
 
 below : (c : tie.After-read-natural2) →
-    let a = c .before .before .before .before .before .before .before .args in
+    let a = began (signed c) .args in
     cappedNumber (negative (size c)) ≡ cappedNumber (numeral (a .minus) (now (a .f)))
 below c =
-    let a = c .before .before .before .before .before .before .before .args in
-    let e = c .before .before .before .if2 .left in
-    sym (ap cappedNumber (numeral-minus (a .minus) (now (a .f)) (omega arith) e (not-false _ (c .before .before .if3 .left))))
+    let a = began (signed c) .args in
+    sym (ap cappedNumber (numeral-minus (a .minus) (now (a .f)) (omega arith) (signed c .if2 .left) (not-false _ (c .before .before .if3 .left))))
 
 -- the size that the code holds
 held : (c : tie.After-size) → answer (size (c .before .before)) ≡ Value (c .size .given .0 .0)
@@ -49,16 +55,15 @@ held c = sym (c .before .before .read-natural2 .ensures) ∙ c .size .given .1
 
 returns-4 : tie.Need-returns-4
 returns-4 c =
-    let r = c .before .before .before .before in
-    minus-zero (size r) _ (held (c .before .before)) (c .if4 .taken) ∙ below r
-
-sub-t14 : tie.Need-sub-t14
-sub-t14 c = minus-fits (size (c .before .before .before .before)) _ (held (c .before .before))
+    let s = c .before .before in
+    let r = s .before .before in
+    minus-zero (size r) _ (held s) (c .if4 .taken) ∙ below r
 
 returns-5 : tie.Need-returns-5
 returns-5 c =
-    let r = c .before .before .before .before in
-    minus-value (size r) _ (held (c .before .before)) (c .if4 .left) ∙ below r
+    let s = c .before .before in
+    let r = s .before .before in
+    minus-value (size r) _ (held s) (c .if4 .left) ∙ below r
 
 returns-6 : tie.Need-returns-6
 returns-6 c =
@@ -80,7 +85,7 @@ read-number-spec =
     (λ c κs. search needs)
     (λ c. search needs)
     returns-4
-    sub-t14
+    (λ c. let s = c .before .before in minus-fits (size (s .before .before)) _ (held s))
     (λ c. search needs)
     returns-5
     returns-6)
