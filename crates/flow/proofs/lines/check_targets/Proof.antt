@@ -28,10 +28,14 @@ abbrev μ-loop : tie.MeasureT-loop
 abbrev none-there : Row
 none-there = row Read []
 
+-- ---- the turn that a test belongs to
+abbrev turn : tie.After-is-named Inv-loop μ-loop → tie.At-loop Inv-loop μ-loop
+turn c = c .before .before .before .before
+
 -- whether the row names only instructions that there are
-named : (c : tie.After-is-named Inv-loop μ-loop) → let l = c .before .before .before .before in
+named : (c : tie.After-is-named Inv-loop μ-loop) → let l = turn c in
     c .is-named .result ≡ all (isNamed (l .before .args .count)) (fields (instructionOf (getD (l .before .args .t1) (l .loop .i) none-there)))
-named c = let l = c .before .before .before .before in
+named c = let l = turn c in
     let x = getD (l .before .args .t1) (l .loop .i) none-there in
     c .is-named .ensures ∙ ap (λ (zs : List ℤ). all (isNamed (l .before .args .count)) (fields (built (x .kind) zs))) (c .before .numbers .ensures)
 
@@ -39,15 +43,13 @@ loop-holds : tie.Need-loop-holds Inv-loop μ-loop
 loop-holds c = (omega arith, refl)
 
 returns : tie.Need-returns Inv-loop μ-loop
-returns c = let a = c .before .before .before .before .before .before .args in
-    target-lost (a .count) (a .count) (a .t1) (search needs) (c .before .before .before .before .before .loop .i) _ (search needs) (sym (named (c .before)) ∙ not-true _ (c .if1 .taken))
-    ∙ c .before .before .before .before .before .loop .inv .1
+returns c = let l = turn (c .before) in let a = l .before .args in
+    target-lost (a .count) (a .count) (a .t1) (search needs) (l .loop .i) _ (search needs) (sym (named (c .before)) ∙ not-true _ (c .if1 .taken)) ∙ l .loop .inv .1
 
 loop-again : tie.Need-loop-again Inv-loop μ-loop
-loop-again c = let a = c .before .before .before .before .before .before .args in (
+loop-again c = let l = turn (c .before) in let a = l .before .args in (
   omega arith,
-  target-named (a .count) (a .count) (a .t1) (search needs) (c .before .before .before .before .before .loop .i) _ (search needs) (sym (named (c .before)) ∙ not-false _ (c .if1 .left))
-      ∙ c .before .before .before .before .before .loop .inv .1,
+  target-named (a .count) (a .count) (a .t1) (search needs) (l .loop .i) _ (search needs) (sym (named (c .before)) ∙ not-false _ (c .if1 .left)) ∙ l .loop .inv .1,
 )
 
 returns-2 : tie.Need-returns-2 Inv-loop μ-loop

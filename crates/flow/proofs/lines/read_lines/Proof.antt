@@ -47,26 +47,32 @@ abbrev μ-lines : tie.MeasureT-lines
 
 -- ---- a line of the text, that of instruction count + 1
 module _ (c : tie.After-line Inv-loop μ-loop Inv-lines μ-lines) where
+  abbrev turn : tie.At-lines Inv-loop μ-loop Inv-lines μ-lines
+  turn = c .before .before .before
+
+  abbrev began : tie.Start Inv-loop μ-loop Inv-lines μ-lines
+  began = turn .before .before .before
+
   abbrev text : List ℕ
-  text = now (c .before .before .before .before .before .before .args .text)
+  text = now (began .args .text)
 
   abbrev head : Head
-  head = c .before .before .before .before .before .before .args .head
+  head = began .args .head
 
   abbrev rows : List Row
-  rows = c .before .before .before .lines .rows
+  rows = turn .lines .rows
 
   abbrev count : ℕ
-  count = c .before .before .before .lines .count
+  count = turn .lines .count
 
   abbrev at : ℕ
-  at = c .before .before .before .lines .at
+  at = turn .lines .at
 
   abbrev end : ℕ
   end = c .before .end-of .result
 
   abbrev answer : Checked (List Row)
-  answer = keptRows (readLines head 1 (lines (drop (c .before .before .before .before .before .before .args .from) text)))
+  answer = keptRows (readLines head 1 (lines (drop (began .args .from) text)))
 
   -- the fields of the line
   abbrev fs : List (List ℕ)
@@ -78,25 +84,26 @@ module _ (c : tie.After-line Inv-loop μ-loop Inv-lines μ-lines) where
 
   refused : (r : Refusal) → laws.stepped head count fs ≡ fault r → (fault r ≡ answer) × Stops
   refused r e =
-      let inv = c .before .before .before .lines .inv in (
-        laws.lines-fault text at head rows count (inv .4) (c .before .before .before .before .before .before .pre .1) (c .before .before .if1 .left) end
-            (c .before .end-of .ensures .0) r e,
+      let inv = turn .lines .inv in (
+        laws.lines-fault text at head rows count (inv .4) (began .pre .1) (c .before .before .if1 .left) end (c .before .end-of .ensures .0) r e,
         (inv .1, inv .3),
       )
 
   more : (row : Row) (stored : List Row) → stored ≡ set rows count row → count < 64 → laws.stepped head count fs ≡ ok row →
       laws.prepended (take (count + 1) stored) (keptRows (readLines head (count + 1 + 1) (lines (drop (end + 1) text)))) ≡ answer
   more row stored is few e =
-      let inv = c .before .before .before .lines .inv in
+      let inv = turn .lines .inv in
       let l : count < length rows = omega (arith, few, inv .2) in
       ap (λ (rs : List Row). laws.prepended (take (count + 1) rs) (keptRows (readLines head (count + 1 + 1) (lines (drop (end + 1) text))))) is
-      ∙ laws.lines-more text at head rows count (inv .4) (c .before .before .before .before .before .before .pre .1) (c .before .before .if1 .left) end
-      (c .before .end-of .ensures .0) row l e
+      ∙ laws.lines-more text at head rows count (inv .4) (began .pre .1) (c .before .before .if1 .left) end (c .before .end-of .ensures .0) row l e
 
 -- ---- it shows no fault before the numbers after its word
 module _ (c : tie.After-known-told Inv-loop μ-loop Inv-lines μ-lines) where
+  abbrev begin-at : tie.After-begin Inv-loop μ-loop Inv-lines μ-lines
+  begin-at = c .before .before .before
+
   abbrev line-at : tie.After-line Inv-loop μ-loop Inv-lines μ-lines
-  line-at = c .before .before .before .before .before
+  line-at = begin-at .before .before
 
   abbrev start : Start
   start = c .before .start .given .0 .0
@@ -105,7 +112,7 @@ module _ (c : tie.After-known-told Inv-loop μ-loop Inv-lines μ-lines) where
   cs = sorts (start .kind)
 
   started : beginLine (count line-at) (fs line-at) ≡ ok start
-  started = sym (c .before .before .before .begin .ensures) ∙ ap begunIn (c .before .start .given .1)
+  started = sym (begin-at .begin .ensures) ∙ ap begunIn (c .before .start .given .1)
 
   -- it is not one too many, and has the fields that its word asks for
   begun : (count line-at < 64) × (length (fs line-at) ≡ length cs + 2)
@@ -124,6 +131,10 @@ module _ (c : tie.At-loop Inv-loop μ-loop Inv-lines μ-lines) where
 
 within : (c : tie.In-loop Inv-loop μ-loop Inv-lines μ-lines) → (k (c .before) < 4) × (k (c .before) < length (cs (start-at (c .before))))
 within c = let width = c .before .before .width .ensures in (omega (arith, width-bound (start (start-at (c .before)) .kind)), omega arith)
+
+-- where the next one was read
+abbrev read-at : tie.After-in-bounds Inv-loop μ-loop Inv-lines μ-lines → tie.After-number-at Inv-loop μ-loop Inv-lines μ-lines
+read-at c = c .before .before .before .before
 
 -- ---- all of them are read, and its row is made and tested
 module _ (c : tie.After-end Inv-loop μ-loop Inv-lines μ-lines) where
@@ -148,6 +159,10 @@ module _ (c : tie.After-end Inv-loop μ-loop Inv-lines μ-lines) where
       ∙ laws.steps-end (head its-line) (count its-line) (fs its-line) (start its-start) (started its-start) zs read (nums past)
       (is ∙ ap (λ (n : ℕ). take n (nums past)) w) (subst (λ (n : ℕ). drop n (nums past) ≡ replicate (4 - n) (pos 0)) w (past .loop .inv .2))
 
+-- where the row to store has passed
+abbrev end-at : tie.After-known-told4 Inv-loop μ-loop Inv-lines μ-lines → tie.After-end Inv-loop μ-loop Inv-lines μ-lines
+end-at c = c .before .before .before
+
 lines-holds : tie.Need-lines-holds Inv-loop μ-loop Inv-lines μ-lines
 lines-holds c = (omega arith, omega arith, refl, ap (replicate 64) (c .stop .ensures), laws.lines-start (replicate 64 (c .stop .result)) _)
 
@@ -157,23 +172,18 @@ loop-holds c =
     (omega arith, refl, refl, laws.numbers-start (cs s) (fs (line-at s)) (replicate 4 (pos 0)))
 
 number-at-requires : tie.Need-number-at-requires Inv-loop μ-loop Inv-lines μ-lines
-number-at-requires c κs = (start-at (c .before) .before .before .before .before .divide .ensures, within c .0)
-
-mul-numbers : tie.Need-mul-numbers Inv-loop μ-loop Inv-lines μ-lines
-mul-numbers c = omega (arith, within (c .before .before .before .before .before) .0)
-
-array-set-from-numbers : tie.Need-array-set-from-numbers Inv-loop μ-loop Inv-lines μ-lines
-array-set-from-numbers c = omega (arith, within (c .before .before .before .before .before) .0)
+number-at-requires c κs = (begin-at (start-at (c .before)) .before .divide .ensures, within c .0)
 
 loop-again : tie.Need-loop-again Inv-loop μ-loop Inv-lines μ-lines
 loop-again c =
-    let m = c .before .before .before .before .before .before in
+    let n = read-at c in
+    let m = n .before .before in
     let s = start-at m in
-    let (four, width) = within (c .before .before .before .before .before) in
+    let (four, width) = within (n .before) in
     let v = c .before .before .x .given .0 .0 in
     let f : SFits w64 v = search needs in
     let g : SFits w32 (c .in-bounds .result) = search needs in
-    let read = sym (c .before .before .before .before .number-at .ensures) ∙ c .before .before .x .given .1 in
+    let read = sym (n .number-at .ensures) ∙ c .before .before .x .given .1 in
     let is : toZ w32 (ofZ w32 (c .in-bounds .result)) ≡ bounded v = toZ-ofZ g ∙ c .in-bounds .ensures ∙ ap bounded (toZ-ofZ f) in (
       omega arith,
       simp length-set (m .loop .inv .1),
@@ -181,29 +191,23 @@ loop-again c =
       rw is (laws.numbers-more (cs s) (fs (line-at s)) (nums m) (k m) (m .loop .inv .3) width (begun s .1) v (omega arith) read),
     )
 
-with-row-requires : tie.Need-with-row-requires Inv-loop μ-loop Inv-lines μ-lines
-with-row-requires c κs = omega (arith, begun (its-start (c .before .before .before)) .0)
-
-add-count : tie.Need-add-count Inv-loop μ-loop Inv-lines μ-lines
-add-count c = omega (arith, begun (its-start (c .before .before .before .before)) .0)
-
 add-at : tie.Need-add-at Inv-loop μ-loop Inv-lines μ-lines
 add-at c =
-    let l = its-line (c .before .before .before .before) in
-    omega (arith, l .before .end-of .ensures .1, l .before .before .before .before .before .before .good .0 .1)
+    let l = its-line (end-at (c .before)) in
+    omega (arith, l .before .end-of .ensures .1, began l .good .0 .1)
 
 lines-less : tie.Need-lines-less Inv-loop μ-loop Inv-lines μ-lines
 lines-less c =
-    let l = its-line (c .before .before .before .before) in
+    let l = its-line (end-at (c .before)) in
     omega (arith, l .before .end-of .ensures .1, l .before .before .if1 .left, l .before .end-of .ensures .0)
 
 lines-again : tie.Need-lines-again Inv-loop μ-loop Inv-lines μ-lines
 lines-again c =
-    let t = c .before .before .before .before in
+    let t = end-at (c .before) in
     let l = its-line t in
     let few = begun (its-start t) .0 in
     let kept-row = c .before .before .kept .given .0 .0 in
-    let inv = l .before .before .before .lines .inv in
+    let inv = turn l .lines .inv in
     let is = c .with-row .ensures in (
       omega (arith, l .before .end-of .ensures .1),
       omega (arith, few),
@@ -222,21 +226,22 @@ returns c =
 returns-2 : tie.Need-returns-2 Inv-loop μ-loop Inv-lines μ-lines
 unfolding linesIn answered
 returns-2 c =
-    let l = c .before .before .before .before .before in
+    let b = c .before .before .before in
+    let l = b .before .before in
     let r = c .before .r .given .0 .0 in
-    refused l r
-    (laws.steps-begin (head l) (count l) (fs l) r (sym (c .before .before .before .begin .ensures) ∙ ap begunIn (c .before .r .given .1)))
+    refused l r (laws.steps-begin (head l) (count l) (fs l) r (sym (b .begin .ensures) ∙ ap begunIn (c .before .r .given .1)))
 
 returns-3 : tie.Need-returns-3 Inv-loop μ-loop Inv-lines μ-lines
 unfolding linesIn answered
 returns-3 c =
-    let m = c .before .before .before .before in
+    let n = c .before .before in
+    let m = n .before .before in
     let s = start-at m in
     let l = line-at s in
     refused l (BadNumber (count l + 2))
     (laws.steps-bad (head l) (count l) (fs l) (start s) (started s)
-    (laws.numbers-bad (cs s) (fs l) (nums m) (k m) (m .loop .inv .3) (within (c .before .before .before) .1) (begun s .1)
-    (sym (c .before .before .number-at .ensures) ∙ c .enum-told .given .1)))
+    (laws.numbers-bad (cs s) (fs l) (nums m) (k m) (m .loop .inv .3) (within (n .before) .1) (begun s .1)
+    (sym (n .number-at .ensures) ∙ c .enum-told .given .1)))
 
 returns-4 : tie.Need-returns-4 Inv-loop μ-loop Inv-lines μ-lines
 unfolding linesIn answered
@@ -269,16 +274,16 @@ read-lines-spec =
     (λ c. search needs)
     (λ c. omega arith)
     (λ c κs. search needs)
-    mul-numbers
-    array-set-from-numbers
+    (λ c. omega (arith, within (read-at c .before) .0))
+    (λ c. omega (arith, within (read-at c .before) .0))
     (λ c. omega arith)
     (λ c. omega arith)
     loop-again
     (λ c κs. omega arith)
     (λ c. search needs)
     (λ c. search needs)
-    with-row-requires
-    add-count
+    (λ c κs. omega (arith, begun (its-start (end-at c)) .0))
+    (λ c. omega (arith, begun (its-start (end-at (c .before))) .0))
     add-at
     lines-less
     lines-again

@@ -24,48 +24,48 @@ Inv-loop kind count numbers k₀ k-end k = (k ≤ k-end) × (laws.tested (isName
 abbrev μ-loop : tie.MeasureT-loop
 μ-loop kind count numbers k₀ k-end k = k-end - k
 
+-- ---- the places: where the function began, and the turn that a test belongs to
+abbrev began : tie.At-loop Inv-loop μ-loop → tie.Start Inv-loop μ-loop
+began l = l .before .before
+
+abbrev turn : tie.After-names Inv-loop μ-loop → tie.In-loop Inv-loop μ-loop
+turn c = c .before .before .before
+
+within : (c : tie.In-loop Inv-loop μ-loop) → let l = c .before in (l .loop .k < 4) × (l .loop .k < length (sorts (began l .args .kind)))
+within c = let w = c .before .before .width .ensures in (omega (arith, w, laws.width-bound (began (c .before) .args .kind)), omega (arith, w))
+
+-- the test of field k
+tested : (c : tie.After-names Inv-loop μ-loop) → let l = turn c .before in let a = began l .args in
+    c .names .result ≡ laws.holds (isNamed (a .count)) (sorts (a .kind)) (a .t2) (l .loop .k)
+tested c =
+    let l = turn c .before in
+    let a = began l .args in
+    let f : SFits w32 (at (a .t2) (l .loop .k)) = search needs in
+    c .names .ensures ∙ ap₂ (λ (s : Sort) (z : ℤ). isNamed (a .count) (field s z)) (c .before .before .sort-at .ensures) (toZ-ofZ f)
+
 loop-holds : tie.Need-loop-holds Inv-loop μ-loop
 loop-holds c = let a = c .before .args in (omega arith, sym (ap (all (isNamed (a .count))) (laws.fields-built (a .t2) (a .kind))))
 
-within : (c : tie.In-loop Inv-loop μ-loop) → (c .before .loop .k < 4) × (c .before .loop .k < length (sorts (c .before .before .before .args .kind)))
-within c = let w = c .before .before .width .ensures in (omega (arith, w, laws.width-bound (c .before .before .before .args .kind)), omega (arith, w))
-
-sort-at-requires : tie.Need-sort-at-requires Inv-loop μ-loop
-sort-at-requires c κs = within c .0
-
-array-copy-out : tie.Need-array-copy-out-names Inv-loop μ-loop
-array-copy-out c = omega (arith, within (c .before) .0)
-
--- the test of field k
-module _ (c : tie.After-names Inv-loop μ-loop) where
-  abbrev loop-at : tie.At-loop Inv-loop μ-loop
-  loop-at = c .before .before .before .before
-
-  tested : let a = loop-at .before .before .args in
-      c .names .result ≡ laws.holds (isNamed (a .count)) (sorts (a .kind)) (a .t2) (loop-at .loop .k)
-  tested =
-      let a = loop-at .before .before .args in
-      let f : SFits w32 (at (a .t2) (loop-at .loop .k)) = search needs in
-      c .names .ensures ∙ ap₂ (λ (s : Sort) (z : ℤ). isNamed (a .count) (field s z)) (c .before .before .sort-at .ensures) (toZ-ofZ f)
-
 returns : tie.Need-returns Inv-loop μ-loop
 returns c =
-    let l = loop-at (c .before) in
-    let a = l .before .before .args in
-    laws.test-fails (isNamed (a .count)) (sorts (a .kind)) (a .t2) (l .loop .k) (within (c .before .before .before .before) .1) (sym (tested (c .before)) ∙ not-true _ (c .if1 .taken)) ∙ l .loop .inv .1
+    let t = turn (c .before) in
+    let l = t .before in
+    let a = began l .args in
+    laws.test-fails (isNamed (a .count)) (sorts (a .kind)) (a .t2) (l .loop .k) (within t .1) (sym (tested (c .before)) ∙ not-true _ (c .if1 .taken)) ∙ l .loop .inv .1
 
 loop-again : tie.Need-loop-again Inv-loop μ-loop
 loop-again c =
-    let l = loop-at (c .before) in
-    let a = l .before .before .args in (
-      omega (arith, c .before .before .before .before .loop-test .taken),
-      laws.test-holds (isNamed (a .count)) (sorts (a .kind)) (a .t2) (l .loop .k) (within (c .before .before .before .before) .1) (sym (tested (c .before)) ∙ not-false _ (c .if1 .left)) ∙ l .loop .inv .1,
+    let t = turn (c .before) in
+    let l = t .before in
+    let a = began l .args in (
+      omega (arith, t .loop-test .taken),
+      laws.test-holds (isNamed (a .count)) (sorts (a .kind)) (a .t2) (l .loop .k) (within t .1) (sym (tested (c .before)) ∙ not-false _ (c .if1 .left)) ∙ l .loop .inv .1,
     )
 
 returns-2 : tie.Need-returns-2 Inv-loop μ-loop
 returns-2 c =
     let l = c .before in
-    let a = l .before .before .args in
+    let a = began l .args in
     laws.tests-end (isNamed (a .count)) (sorts (a .kind)) (a .t2) (l .loop .k) (omega (arith, l .before .width .ensures, c .loop-test .left)) ∙ l .loop .inv .1
 
 pub is-named-spec : {M : Type 1} → statement M
@@ -76,9 +76,9 @@ is-named-spec =
     μ-loop
     (λ c κs. search needs)
     loop-holds
-    sort-at-requires
+    (λ c κs. within c .0)
     (λ c. omega (arith, within (c .before) .0))
-    array-copy-out
+    (λ c. omega (arith, within (c .before) .0))
     (λ c κs. search needs)
     returns
     (λ c. search needs)

@@ -12,16 +12,24 @@ use Rattle.flow.proofs.words.kind_of.Tie as tie
 returns : tie.Need-returns
 unfolding firstNamed sameWord
 returns c =
-    let w = now (c .before .before .before .before .before .before .before .before .before .before .before .before .before .before .before .before .before .before .before .args .w) in
+    let put = c .before .before in
+    let copy = put .before .before in
+    let set = copy .before .before in
+    let less = set .before .before in
+    let over = less .before .before in
+    let under = over .before .before in
+    let nop = under .before .before in
+    let stop = nop .before .before in
+    let w = now (stop .before .before .before .args .w) in
     word-more Read (sameWord w (table Read .word)) (c .found9 .ensures)
-    (word-more Put (sameWord w (table Put .word)) (c .before .before .found8 .ensures)
-    (word-more Copy (sameWord w (table Copy .word)) (c .before .before .before .before .found7 .ensures)
-    (word-more Set (sameWord w (table Set .word)) (c .before .before .before .before .before .before .found6 .ensures)
-    (word-more Less (sameWord w (table Less .word)) (c .before .before .before .before .before .before .before .before .found5 .ensures)
-    (word-more Over (sameWord w (table Over .word)) (c .before .before .before .before .before .before .before .before .before .before .found4 .ensures)
-    (word-more Under (sameWord w (table Under .word)) (c .before .before .before .before .before .before .before .before .before .before .before .before .found3 .ensures)
-    (word-more Nop (sameWord w (table Nop .word)) (c .before .before .before .before .before .before .before .before .before .before .before .before .before .before .found2 .ensures)
-    (word-more Stop (sameWord w (table Stop .word)) (c .before .before .before .before .before .before .before .before .before .before .before .before .before .before .before .before .found .ensures) refl))))))))
+    (word-more Put (sameWord w (table Put .word)) (put .found8 .ensures)
+    (word-more Copy (sameWord w (table Copy .word)) (copy .found7 .ensures)
+    (word-more Set (sameWord w (table Set .word)) (set .found6 .ensures)
+    (word-more Less (sameWord w (table Less .word)) (less .found5 .ensures)
+    (word-more Over (sameWord w (table Over .word)) (over .found4 .ensures)
+    (word-more Under (sameWord w (table Under .word)) (under .found3 .ensures)
+    (word-more Nop (sameWord w (table Nop .word)) (nop .found2 .ensures)
+    (word-more Stop (sameWord w (table Stop .word)) (stop .found .ensures) refl))))))))
 
 pub kind-of-spec : {M : Type 1} → statement M
 kind-of-spec =
