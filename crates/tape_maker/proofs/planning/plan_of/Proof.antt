@@ -19,35 +19,40 @@ use Rattle.tape_maker.proofs.planning.plan_of.Statement.{statement}
 use Rattle.tape_maker.proofs.planning.plan_of.Tie as tie
 use Rattle.flow.specs.inner.Rows.{flowOf}
 
--- the least and the greatest constant, as they are passed on
-lo-is : (c : tie.After-width) → toZ w32 (ofZ w32 (c .before .before .before .before .before .range-of .result .lo)) ≡ C1 (flowOf (c .before .before .before .before .before .before .args .flow))
-lo-is c = let f : SFits w32 (c .before .before .before .before .before .range-of .result .lo) = search needs in toZ-ofZ f ∙ c .before .before .before .before .before .range-of .ensures .0
+-- the way: the range of the constants
+abbrev ranged : tie.After-width → tie.After-range-of
+ranged c = c .before .before .before .before .before
 
-hi-is : (c : tie.After-width) → toZ w32 (ofZ w32 (c .before .before .before .before .before .range-of .result .hi)) ≡ C2 (flowOf (c .before .before .before .before .before .before .args .flow))
-hi-is c = let f : SFits w32 (c .before .before .before .before .before .range-of .result .hi) = search needs in toZ-ofZ f ∙ c .before .before .before .before .before .range-of .ensures .1
+-- the least and the greatest constant, as they are passed on
+lo-is : (c : tie.After-width) → toZ w32 (ofZ w32 (ranged c .range-of .result .lo)) ≡ C1 (flowOf (ranged c .before .args .flow))
+lo-is c = let f : SFits w32 (ranged c .range-of .result .lo) = search needs in toZ-ofZ f ∙ ranged c .range-of .ensures .0
+
+hi-is : (c : tie.After-width) → toZ w32 (ofZ w32 (ranged c .range-of .result .hi)) ≡ C2 (flowOf (ranged c .before .args .flow))
+hi-is c = let f : SFits w32 (ranged c .range-of .result .hi) = search needs in toZ-ofZ f ∙ ranged c .range-of .ensures .1
 
 prepare-requires : tie.Need-prepare-requires
 prepare-requires c κs = let a = c .before .before .before .before in (a .pre .1, rows-bytes (a .args .flow) (a .pre .0))
 
 start-requires : tie.Need-start-requires
 start-requires c κs =
-    let a = c .before .before .before .before .before .before in
+    let a = ranged c .before in
     subst⁻¹ (λ (z : ℤ). offset (pos 0) z < lane) (lo-is c) (start-fits (fit-legal (flowOf (a .args .flow)) (a .pre .0)))
 
 returns : tie.Need-returns
 returns c =
-    let a = c .before .before .before .before .before .before .before in
+    let width = c .before in
+    let a = ranged width .before in
     let flow = a .args .flow in
-    let range = c .before .before .before .before .before .before .range-of .ensures in
-    let ops = c .before .before .prepare in
+    let range = ranged width .range-of .ensures in
+    let ops = width .before .prepare in
     record {
       legal = a .pre .0;
       prepared = rows-prepared flow (a .pre .0)
-          (subst (λ (z : ℤ). Each (opOf z) blank (flow .instructions) (flow .count) (ops .result)) (lo-is (c .before)) (ops .ensures));
-      width = c .before .width .ensures ∙ ap₂ widthOf (range .0) (range .1);
-      begins = c .start .ensures ∙ ap startOf (lo-is (c .before));
-      low = lo-is (c .before);
-      high = hi-is (c .before);
+          (subst (λ (z : ℤ). Each (opOf z) blank (flow .instructions) (flow .count) (ops .result)) (lo-is width) (ops .ensures));
+      width = width .width .ensures ∙ ap₂ widthOf (range .0) (range .1);
+      begins = c .start .ensures ∙ ap startOf (lo-is width);
+      low = lo-is width;
+      high = hi-is width;
     }
 
 pub plan-of-spec : {M : Type 1} → statement M

@@ -21,6 +21,20 @@ use Rattle.tape_maker.proofs.sampling.sample_flow.Statement.{statement}
 use Rattle.tape_maker.proofs.sampling.sample_flow.Tie as tie
 use Rattle.flow.specs.inner.Rows.{flowOf}
 
+-- ---- the way back: what was found, the search, the plan, the start
+abbrev found : tie.After-struct-told2 → tie.After-found
+found c = c .before .before .before .before .before .before
+
+abbrev searched : tie.After-found → tie.After-search
+searched c = c .before .before .before
+
+abbrev planned : tie.After-search → tie.After-plan-of
+planned c = c .before .before .before .before
+
+abbrev start : tie.After-plan-of → tie.Start
+start c = c .before .before .before .before
+
+-- ---- the needs
 returns : tie.Need-returns
 returns c =
     let has = c .before .before in
@@ -29,10 +43,10 @@ returns c =
     (flow-exits (a .flow) (a .instruction) (sym (has .has-exits .ensures) ∙ not-true _ (c .before .if1 .taken))) (c .without .ensures)
 
 -- the exit exists
-wanted : (c : tie.Else1) → let a = c .before .before .before .args in Wanted (flowOf (a .flow)) (a .instruction)
+wanted : (c : tie.After-plan-of) → let a = start c .args in Wanted (flowOf (a .flow)) (a .instruction)
 wanted c =
-    let a = c .before .before .before .args in
-    flow-exits (a .flow) (a .instruction) (sym (c .before .has-exits .ensures) ∙ not-false _ (c .if1 .left))
+    let left = c .before in
+    flow-exits (start c .args .flow) (start c .args .instruction) (sym (left .before .has-exits .ensures) ∙ not-false _ (left .if1 .left))
 
 search-requires : tie.Need-search-requires
 search-requires c κs = plan-subject (c .before .before .before .plan-of .ensures)
@@ -41,49 +55,42 @@ returns-2 : tie.Need-returns-2
 returns-2 c =
     let told = c .before in
     let s = told .before .before .before in
-    let plan = s .before .before .before .before in
-    let a = plan .before .before .before .before .args in
-    full-answered (flowOf (a .flow)) (a .instruction) (exitIf (a .exit)) (cellsOf (now (a .cells))) (now (a .row)) _ _ refl (wanted (plan .before))
+    let plan = planned s in
+    let a = start plan .args in
+    full-answered (flowOf (a .flow)) (a .instruction) (exitIf (a .exit)) (cellsOf (now (a .cells))) (now (a .row)) _ _ refl (wanted plan)
     (search-full (plan .plan-of .ensures) _ (s .search .ensures) (told .enum-told .given .1)) (c .without2 .ensures)
 
 -- the search is finished
-finished : (c : tie.After-found) → let s = c .before .before .before in
-    let plan = s .before .before .before .before in
-    let a = plan .before .before .before .before .args in
+finished : (c : tie.After-found) → let s = searched c in
+    let plan = planned s in
+    let a = start plan .args in
     Finished (C1 (flowOf (a .flow))) (plan .plan-of .result .w) (flowOf (a .flow)) (columnsOf (s .search .last .0)) (cellsOf (now (a .cells))) (c .found .given .0 .0)
-finished c =
-    let s = c .before .before .before in
-    search-done (s .before .before .before .before .plan-of .ensures) _ (s .search .ensures) (c .found .given .1)
+finished c = let s = searched c in search-done (planned s .plan-of .ensures) _ (s .search .ensures) (c .found .given .1)
 
 -- C1 and C2, as they are passed on, and the table
-tabled : (c : tie.After-struct-told2) → let found = c .before .before .before .before .before .before in
-    let s = found .before .before .before in
-    let plan = s .before .before .before .before in
-    let p = plan .plan-of .result in
-    let a = plan .before .before .before .before .args in
-    Tabled (flowOf (a .flow)) (entriesOf (columnsOf (s .search .last .0))) (found .found .given .0 .0) (length (s .search .last .0)) (p .ops) (p .w)
+tabled : (c : tie.After-struct-told2) → let s = searched (found c) in
+    let p = planned s .plan-of .result in
+    let a = start (planned s) .args in
+    Tabled (flowOf (a .flow)) (entriesOf (columnsOf (s .search .last .0))) (found c .found .given .0 .0) (length (s .search .last .0)) (p .ops) (p .w)
     (toZ w32 (ofZ w32 (p .lo))) (toZ w32 (ofZ w32 (p .hi))) (a .instruction)
 tabled c =
-    let found = c .before .before .before .before .before .before in
-    let plan = found .before .before .before .before .before .before .before in
+    let plan = planned (searched (found c)) in
     let low : SFits w32 (plan .plan-of .result .lo) = search needs in
     let high : SFits w32 (plan .plan-of .result .hi) = search needs in
-    finished-tabled (plan .plan-of .ensures) _ (finished found) (wanted (plan .before)) (toZ-ofZ low) (toZ-ofZ high)
+    finished-tabled (plan .plan-of .ensures) _ (finished (found c)) (wanted plan) (toZ-ofZ low) (toZ-ofZ high)
 
 sample-for-requires : tie.Need-sample-for-requires
-sample-for-requires c κs =
-    let a = c .before .before .before .before .before .before .before .before .before .before .before .before .before .before .before .before .before .args in
-    (flowOf (a .flow), tabled c)
+sample-for-requires c κs = (flowOf (start (planned (searched (found c))) .args .flow), tabled c)
 
 returns-3 : tie.Need-returns-3
 unfolding flowOf
 returns-3 c =
     let made = c .before .before in
-    let found = made .before .before .before .before .before .before .before in
-    let plan = found .before .before .before .before .before .before .before in
-    let a = plan .before .before .before .before .args in
-    done-answered (flowOf (a .flow)) (a .instruction) (exitIf (a .exit)) (cellsOf (now (a .cells))) (now (a .row)) _ _ (wanted (plan .before))
-    (finished-held (plan .plan-of .ensures) _ (finished found)) refl (made .sample-for .ensures (flowOf (a .flow)) (tabled (made .before)))
+    let f = found (made .before) in
+    let plan = planned (searched f) in
+    let a = start plan .args in
+    done-answered (flowOf (a .flow)) (a .instruction) (exitIf (a .exit)) (cellsOf (now (a .cells))) (now (a .row)) _ _ (wanted plan)
+    (finished-held (plan .plan-of .ensures) _ (finished f)) refl (made .sample-for .ensures (flowOf (a .flow)) (tabled (made .before)))
 
 pub sample-flow-spec : {M : Type 1} → statement M
 sample-flow-spec =
