@@ -4,51 +4,36 @@ use Prim.Native.Nat.{ℕ, _+_}
 use native.Mathlib.Omega.{arith}
 use denote.Ref.{now}
 use borrow.Author.Needs.{needs}
-use Rattle.configuration.proofs.next.Reads as next-reads
 use Rattle.cells.specs.inner.Columns.{columnsOf}
 use Rattle.cells.specs.inner.Entries.{entriesOf, distanceOf}
 use Rattle.cells.proofs.Entering.{room}
-use Rattle.cells.proofs.get.Reads as get-reads
 use Rattle.search_table.specs.inner.Table.{wordsAt}
-use Rattle.search_table.proofs.words_at.Reads as words-at-reads
 use Rattle.search_visit.specs.inner.Fan.{FanFits}
 use Rattle.search_visit.proofs.Fanning.{fan-answer, next-ready, next-answer}
-use Rattle.search_visit.proofs.fan.Reads as fan-reads
-use Rattle.search_visit.proofs.visit.Reads as visit-reads
-use Rattle.search_visit.proofs.after_visit.Reads as after-visit-reads
 use Rattle.search.proofs.Exploring.{expanded-by}
-use Rattle.search.proofs.expand.Reads as reads
-use Rattle.search.proofs.expand.Lts as lts
 use Rattle.search.proofs.expand.Statement.{statement}
 use Rattle.search.proofs.expand.Tie as tie
 
--- ---- the way: the start, the words and the distance, and the fan
-abbrev claims : lts.Claims
-claims = (
-  words-at-reads.Asked,
-  words-at-reads.Learnt,
-  get-reads.Asked,
-  get-reads.Learnt,
-  fan-reads.Asked,
-  fan-reads.Learnt,
-  next-reads.Asked,
-  next-reads.Learnt,
-  visit-reads.Asked,
-  visit-reads.Learnt,
-  after-visit-reads.Asked,
-  after-visit-reads.Learnt,
-)
+-- ---- the way back: the fan, the distance, the words and the start
+abbrev fanned : tie.After-g → tie.After-fan
+fanned c = c .before .before .before
 
-abbrev start : lts.After-get claims reads.Pre reads.Post → lts.Start claims reads.Pre reads.Post
-start c = c .before .before .before .before
+abbrev got : tie.After-fan → tie.After-get
+got c = c .before .before
 
-same : (c : lts.After-get claims reads.Pre reads.Post) → c .before .before .words-at .result ≡ wordsAt (entriesOf (columnsOf (now (start c .args .cells)))) (start c .args .k)
-same c = c .before .before .words-at .ensures
+abbrev worded : tie.After-get → tie.After-words-at
+worded c = c .before .before
 
-far : (c : lts.After-get claims reads.Pre reads.Post) → c .get .result + 1 ≡ distanceOf (entriesOf (columnsOf (now (start c .args .cells)))) (start c .args .k) + 1
+abbrev start : tie.After-get → tie.Start
+start c = worded c .before .before
+
+same : (c : tie.After-get) → worded c .words-at .result ≡ wordsAt (entriesOf (columnsOf (now (start c .args .cells)))) (start c .args .k)
+same c = worded c .words-at .ensures
+
+far : (c : tie.After-get) → c .get .result + 1 ≡ distanceOf (entriesOf (columnsOf (now (start c .args .cells)))) (start c .args .k) + 1
 far c = ap (λ (d : ℕ). d + 1) (c .get .ensures)
 
-fine : (c : lts.After-get claims reads.Pre reads.Post) → FanFits (start c .args .w) (start c .args .op) (c .before .before .words-at .result)
+fine : (c : tie.After-get) → FanFits (start c .args .w) (start c .args .op) (worded c .words-at .result)
 fine c = subst (FanFits (start c .args .w) (start c .args .op)) (sym (same c)) (start c .pre .1 .1 .0)
 
 -- ---- the needs
@@ -70,14 +55,14 @@ fan-requires c κs =
 returns : tie.Need-returns
 returns c =
     let f = c .before .before .before in
-    let g = f .before .before in
+    let g = got f in
     expanded-by _ _ _ _ _ _ _ _ (same g) (far g) (fan-answer (fine g) _ _ _ _ _ _ _ (f .fan .ensures) (c .enum-told .given .1) _)
 
 visit-requires : tie.Need-visit-requires
 visit-requires c κs =
     let grew = c .before .before .before in
-    let f = grew .before .before .before in
-    let g = f .before .before in
+    let f = fanned grew in
+    let g = got f in
     next-ready (fine g) _ _ _ _ _ _ _ (f .fan .ensures) (grew .g .given .1) (start g .pre .1 .0)
 
 returns-2 : tie.Need-returns-2
@@ -85,8 +70,8 @@ returns-2 c =
     let v = c .before .before in
     let stepped = v .before .before in
     let grew = stepped .before .before in
-    let f = grew .before .before .before in
-    let g = f .before .before in
+    let f = fanned grew in
+    let g = got f in
     expanded-by _ _ _ _ _ _ _ _ (same g) (far g)
     (next-answer (fine g) _ _ _ _ _ _ _ (f .fan .ensures) (grew .g .given .1) (stepped .next .ensures) _ _
     (v .visit .ensures .1) (v .visit .ensures .0) (c .after-visit .ensures))
@@ -103,7 +88,7 @@ expand-spec =
     (λ c. search needs)
     (λ c. search needs)
     returns
-    (λ c κs. fine (c .before .before .before .before .before .before) .width)
+    (λ c κs. fine (got (fanned (c .before))) .width)
     visit-requires
     (λ c κs. search needs)
     (λ c. search needs)
