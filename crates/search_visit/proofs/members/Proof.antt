@@ -26,6 +26,14 @@ Inv-loop cells₀ count size d k w v first last n₀ y₀ cells n y =
 abbrev μ-loop : tie.MeasureT-loop
 μ-loop cells₀ count size d k w v first last n₀ y₀ cells n y = w + 25 - y
 
+-- ---- the way back: the visit, and the member made
+abbrev visited : tie.After-s Inv-loop μ-loop → tie.After-visit Inv-loop μ-loop
+visited c = c .before .before .before
+
+abbrev made : tie.After-visit Inv-loop μ-loop → tie.After-fan-at Inv-loop μ-loop
+made c = c .before .before
+
+-- ---- the needs
 loop-holds : tie.Need-loop-holds Inv-loop μ-loop
 loop-holds c = (members-none _ _ _ (c .pre .0), omega arith, fresh-none _ _, refl)
 
@@ -42,37 +50,35 @@ visit-requires c κs =
 returns : tie.Need-returns Inv-loop μ-loop
 unfolding MembersIs
 returns c =
-    let visited = c .before .before .before in
-    let made = visited .before .before in
-    let inside = made .before in
+    let v = c .before .before .before in
+    let m = made v in
+    let inside = m .before in
     let at = inside .before in (
-      members-full _ _ _ _ (at .loop .inv .0) (at .loop .inv .1) (omega (arith, inside .loop-test .taken)) _ (made .fan-at .ensures)
-          (visited-full _ _ _ _ _ _ _ _ _ _ (visited .visit .ensures .0) (c .enum-told .given .1)),
-      fresh-full _ _ _ _ _ _ (kept-count (at .loop .inv .0)) (at .loop .inv .2) (visited .visit .ensures .1) (c .enum-told .given .1),
+      members-full _ _ _ _ (at .loop .inv .0) (at .loop .inv .1) (omega (arith, inside .loop-test .taken)) _ (m .fan-at .ensures)
+          (visited-full _ _ _ _ _ _ _ _ _ _ (v .visit .ensures .0) (c .enum-told .given .1)),
+      fresh-full _ _ _ _ _ _ (kept-count (at .loop .inv .0)) (at .loop .inv .2) (v .visit .ensures .1) (c .enum-told .given .1),
     )
 
 add-y : tie.Need-add-y Inv-loop μ-loop
 add-y c =
-    let inside = c .before .before .before .before .before .before .before in
+    let inside = made (visited (c .before)) .before in
     record { fits = omega (arith, inside .loop-test .taken, inside .before .before .pre .1 .1 .0 .few) }
 
 loop-less : tie.Need-loop-less Inv-loop μ-loop
-loop-less c =
-    let inside = c .before .before .before .before .before .before .before in
-    omega (arith, inside .loop-test .taken)
+loop-less c = omega (arith, made (visited (c .before)) .before .loop-test .taken)
 
 loop-again : tie.Need-loop-again Inv-loop μ-loop
 loop-again c =
     let told = c .before in
-    let visited = told .before .before .before in
-    let made = visited .before .before in
-    let inside = made .before in
+    let v = visited told in
+    let m = made v in
+    let inside = m .before in
     let at = inside .before in (
-      members-more _ _ _ _ (at .loop .inv .0) (at .loop .inv .1) (omega (arith, inside .loop-test .taken)) _ (made .fan-at .ensures)
-          (visited-at _ _ _ _ _ _ _ _ _ _ (visited .visit .ensures .0) (told .s .given .1)),
+      members-more _ _ _ _ (at .loop .inv .0) (at .loop .inv .1) (omega (arith, inside .loop-test .taken)) _ (m .fan-at .ensures)
+          (visited-at _ _ _ _ _ _ _ _ _ _ (v .visit .ensures .0) (told .s .given .1)),
       omega (arith, at .loop .inv .1),
-      fresh-then _ _ _ _ _ _ (kept-count (at .loop .inv .0)) (at .loop .inv .2) (fresh-at _ _ _ _ (visited .visit .ensures .1) (told .s .given .1)),
-      visited .visit .kept .0 ∙ at .loop .inv .3,
+      fresh-then _ _ _ _ _ _ (kept-count (at .loop .inv .0)) (at .loop .inv .2) (fresh-at _ _ _ _ (v .visit .ensures .1) (told .s .given .1)),
+      v .visit .kept .0 ∙ at .loop .inv .3,
     )
 
 returns-2 : tie.Need-returns-2 Inv-loop μ-loop
