@@ -1,15 +1,30 @@
 -- `sample_at` meets its contract: the entry gives the distance, and the way to it the records.
 use borrow.Author.Needs.{needs}
-use mathlib.Core.Path.{refl, _∙_}
+use mathlib.Core.Path.{_≡_, refl, _∙_}
 use native.Mathlib.Omega.{arith}
 use denote.Ref.{now}
+use lib.ListN.{getD}
 use mir.Facts.{toZ-ofZ}
-use Rattle.cells.specs.inner.Columns.{distanceField}
+use Rattle.cells.specs.inner.Columns.{distanceField, column}
 use Rattle.cells.proofs.Fields.{length-column}
 use Rattle.sample.proofs.Picking.{tabled-after, nearest-after, traced-after, far-after, way-long, tabled-at, nearest-below, nearest-room, way-leads, way-ends-there, short-picked, taken-picked}
 use Rattle.sample.proofs.sample_at.Statement.{statement}
 use Rattle.sample.proofs.sample_at.Tie as tie
 
+-- ---- the way back: the trace, the distance read, and the start
+abbrev way-of : tie.After-write-sample-arg2 → tie.After-trace
+way-of c = c .before .before .before
+
+abbrev read : tie.After-trace → tie.After-wide
+read c = c .before .before .before
+
+abbrev start : tie.After-wide → tie.Start
+start c = c .before .before .before
+
+far-is : (c : tie.After-wide) → c .wide .result ≡ getD (column distanceField (now (start c .args .cells))) (start c .args .k) 0
+far-is c = c .wide .ensures ∙ c .before .get .ensures
+
+-- ---- the needs
 get-requires : tie.Need-get-requires
 get-requires c κs =
     let b = c .before in
@@ -19,27 +34,24 @@ get-requires c κs =
 returns : tie.Need-returns
 returns c = λ flow i t h.
     let w = c .before .before in
-    let g = w .before in
-    let b = g .before .before in
-    short-picked t (b .args .exit) (b .args .k) h (w .wide .ensures ∙ g .get .ensures) (b .args .tapes) (now (b .args .row)) _ (omega arith) (c .without .ensures)
+    let b = start w in
+    short-picked t (b .args .exit) (b .args .k) h (far-is w) (b .args .tapes) (now (b .args .row)) _ (omega arith) (c .without .ensures)
 
 trace-requires : tie.Need-trace-requires
 trace-requires c κs =
-    let b = c .before .before .before .before .before in
+    let b = start (c .before .before) in
     let t = b .pre .2 in
     (t .parents, (nearest-below t (b .args .exit) (b .args .k) (b .pre .3), nearest-room t (b .args .exit) (b .args .k) (b .pre .3)))
 
 write-sample-requires : tie.Need-write-sample-requires
 write-sample-requires c κs =
-    let way = c .before .before .before in
-    let w = way .before .before .before in
-    let g = w .before in
-    let b = g .before .before in
+    let way = way-of c in
+    let b = start (read way) in
     let a = b .args in
     let only = way .trace .ensures .1 in
     let t = tabled-after _ _ only (tabled-at (b .pre .2) (toZ-ofZ (b .fits .lo)) (toZ-ofZ (b .fits .hi))) in
     let h = nearest-after _ _ only (a .w) (a .n) (a .ops) (b .pre .1) (a .exit) (a .k) (b .pre .3) in
-    let far = far-after _ _ only (a .k) (w .wide .ensures ∙ g .get .ensures) in
+    let far = far-after _ _ only (a .k) (far-is (read way)) in
     let long = way-long _ _ only (way .trace .kept .0) in
     let traced = traced-after _ _ only _ _ _ (way .trace .ensures .0) in (
       (b .pre .0, way-leads t (a .exit) (a .k) h far long traced, way-ends-there t (a .exit) (a .k) h far long traced),
@@ -48,28 +60,24 @@ write-sample-requires c κs =
 
 add-distance : tie.Need-add-t16
 add-distance c =
-    let way = c .before .before .before .before .before in
-    let w = way .before .before .before in
-    let g = w .before in
-    let b = g .before .before in
+    let w = read (way-of (c .before .before)) in
+    let b = start w in
     let t = b .pre .2 in
     let l = nearest-below t (b .args .exit) (b .args .k) (b .pre .3) in
-    let far = w .wide .ensures ∙ g .get .ensures in
+    let far = far-is w in
     let near = t .walkable .near (b .args .k) l in
     let few = t .walkable .few in
     search needs
 
 returns-2 : tie.Need-returns-2
 returns-2 c = λ flow i g h.
-    let way = c .before .before .before .before .before in
-    let w = way .before .before .before in
-    let got = w .before in
-    let b = got .before .before in
+    let way = way-of (c .before .before) in
+    let b = start (read way) in
     let a = b .args in
     let only = way .trace .ensures .1 in
     let t = tabled-after _ _ only (tabled-at g (toZ-ofZ (b .fits .lo)) (toZ-ofZ (b .fits .hi))) in
     let h₁ = nearest-after _ _ only (a .w) (a .n) (a .ops) i (a .exit) (a .k) h in
-    let far = far-after _ _ only (a .k) (w .wide .ensures ∙ got .get .ensures) in
+    let far = far-after _ _ only (a .k) (far-is (read way)) in
     let long = way-long _ _ only (way .trace .kept .0) in
     let traced = traced-after _ _ only _ _ _ (way .trace .ensures .0) in
     taken-picked t (a .exit) (a .k) h₁ far long traced _

@@ -10,6 +10,20 @@ use Rattle.sample.proofs.Picking.{nearest-is, tabled-at, tabled-wide, t
 use Rattle.sample.proofs.sample_for.Statement.{statement}
 use Rattle.sample.proofs.sample_for.Tie as tie
 
+-- ---- the way back: the entry found, the search for it, the start, and the table there
+abbrev found : tie.After-sample-at-arg2 → tie.After-found
+found c = c .before .before .before
+
+abbrev looked : tie.After-found → tie.After-nearest
+looked c = c .before .before
+
+abbrev start : tie.After-nearest → tie.Start
+start c = c .before .before .before
+
+abbrev table : tie.Start → Entries
+table b = entriesOf (columnsOf (now (b .args .cells)))
+
+-- ---- the needs
 sub-at : tie.Need-sub-at
 sub-at c = let l = tabled-first (c .pre .1) in search needs
 
@@ -25,26 +39,22 @@ nearest-requires c κs =
     let t = b .pre .1 in
     (tabled-wide t, omega (arith, t .walkable .place-room, length-word-column placeField (now (b .args .cells))))
 
--- the table in the cells
-abbrev table : tie.Start → Entries
-table b = entriesOf (columnsOf (now (b .args .cells)))
-
 sample-at-requires : tie.Need-sample-at-requires
 sample-at-requires c κs =
-    let found = c .before .before .before in
-    let n = found .before .before in
-    let b = n .before .before .before in
+    let f = found c in
+    let n = looked f in
+    let b = start n in
     let a = b .args in (
       b .pre .0,
       a .instruction,
       tabled-at (b .pre .1) (toZ-ofZ (b .fits .lo)) (toZ-ofZ (b .fits .hi)),
-      nearest-is (a .w) (table b) (a .n) (a .t3) (a .instruction) (a .exit) (found .found .given .1) (n .nearest .ensures),
+      nearest-is (a .w) (table b) (a .n) (a .t3) (a .instruction) (a .exit) (f .found .given .1) (n .nearest .ensures),
     )
 
 returns : tie.Need-returns
 returns c = λ flow t.
     let n = c .before .before .before in
-    let b = n .before .before .before in
+    let b = start n in
     let a = b .args in
     nothing-picked t (a .exit) (a .tapes) (now (a .row)) _
     (nearest-is (a .w) (table b) (a .n) (a .t3) (a .instruction) (a .exit) (c .before .enum-told .given .1) (n .nearest .ensures)) (c .without .ensures)
@@ -52,12 +62,12 @@ returns c = λ flow t.
 returns-2 : tie.Need-returns-2
 returns-2 c = λ flow t.
     let s = c .before .before in
-    let found = s .before .before .before .before in
-    let n = found .before .before in
-    let b = n .before .before .before in
+    let f = found (s .before) in
+    let n = looked f in
+    let b = start n in
     let a = b .args in
     s .sample-at .ensures flow (a .instruction) (tabled-at t (toZ-ofZ (b .fits .lo)) (toZ-ofZ (b .fits .hi)))
-    (nearest-is (a .w) (table b) (a .n) (a .t3) (a .instruction) (a .exit) (found .found .given .1) (n .nearest .ensures))
+    (nearest-is (a .w) (table b) (a .n) (a .t3) (a .instruction) (a .exit) (f .found .given .1) (n .nearest .ensures))
 
 pub sample-for-spec : {M : Type 1} → statement M
 sample-for-spec =

@@ -2,10 +2,12 @@
 use mathlib.Core.Path.{_≡_, sym, subst}
 use native.Mathlib.Omega.{arith}
 use denote.Ref.{now}
-use lib.ListN.{length}
+use lib.IntN.{ℤ}
+use lib.ListN.{length, getD}
 use mir.Facts.{toZ-ofZ}
-use Rattle.search_table.specs.inner.Passes.{Stands}
-use Rattle.sample.specs.inner.Sampling.{Course, courseIn, CourseLeads, Roomy, Following}
+use Rattle.model.specs.Language.{Flow}
+use Rattle.search_table.specs.inner.Passes.{Stands, blank}
+use Rattle.sample.specs.inner.Sampling.{Course, courseIn, opAlong, CourseLeads, Following}
 use Rattle.sample.proofs.Numbers as numbers
 use Rattle.sample.proofs.Counts.{op-by-place}
 use Rattle.sample.proofs.Ending.{end-roomy, end-asks, end-written}
@@ -14,11 +16,41 @@ use Rattle.search_table.proofs.Reading.{on-way}
 use Rattle.sample.proofs.write_sample.Statement.{statement}
 use Rattle.sample.proofs.write_sample.Tie as tie
 
+-- ---- the way back: the steps written, the sizes, and the start
+abbrev stepped : tie.After-last-read-arg → tie.After-write-steps
+stepped c = c .before .before
+
+abbrev sized : tie.After-write-steps → tie.After-sizes-of
+sized c = c .before .before
+
+abbrev start : tie.After-op → tie.Start
+start c = c .before .before .before
+
+-- the course, which a callee has with lo and hi as they are passed on
+module _ (b : tie.Start) where
+  abbrev along : (lo hi : ℤ) → Course
+  along = courseIn (now (b .args .cells)) (b .args .steps) (b .args .t3) (b .args .w)
+
+  abbrev way : Course
+  way = along (b .args .lo) (b .args .hi)
+
+  same : along (numbers.back (b .args .lo)) (numbers.back (b .args .hi)) ≡ way
+  same = λ i. along (toZ-ofZ (b .fits .lo) i) (toZ-ofZ (b .fits .hi) i)
+
+-- the instruction at the end
+op-is : (c : tie.After-op) → let b = start c in getD (b .args .t3) (c .before .index .result) blank ≡ opAlong (way b) (b .args .steps)
+op-is c = op-by-place (start c .pre .0 .1) _ _ (c .before .before .place-on .ensures) (c .before .index .ensures .0)
+
+-- what the steps follow
+follows : (c : tie.After-write-steps) → let s = sized c in
+    let b = start (s .before) in
+    (flow : Flow) → CourseLeads (way b) flow
+    → Following (way b) flow (s .sizes-of .result) (now (b .args .row)) (b .args .steps) (c .write-steps .result) (c .write-steps .last .1 .1 .1 .1 .1 .1 .1 .0)
+follows c flow q = let e = same (start (sized c .before)) in rw e at (c .write-steps .ensures flow (rw e q))
+
+-- ---- the needs
 place-on-requires : tie.Need-place-on-requires
-place-on-requires c κs =
-    let b = c in
-    let p = b .pre .0 .1 .passable in
-    on-way _ p (b .args .steps) (omega arith)
+place-on-requires c κs = let p = c .pre .0 .1 .passable in on-way _ p (c .args .steps) (omega arith)
 
 index-requires : tie.Need-index-requires
 index-requires c κs =
@@ -30,50 +62,29 @@ array-copy-out-op c = c .index .ensures .1
 
 write-steps-requires : tie.Need-write-steps-requires
 write-steps-requires c κs =
-    let b = c .before .before .before .before .before in
-    let a = b .args in
-    let way = courseIn (now (a .cells)) (a .steps) (a .t3) (a .w) in
-    let same : way (numbers.back (a .lo)) (numbers.back (a .hi)) ≡ way (a .lo) (a .hi)
-    = λ i. way (toZ-ofZ (b .fits .lo) i) (toZ-ofZ (b .fits .hi) i) in
-    let is = op-by-place (b .pre .0 .1) (a .steps) _ (c .before .before .before .before .place-on .ensures) (c .before .before .before .index .ensures .0) in
-    let flow = b .pre .0 .0 in
-    let q = b .pre .0 .1 in
-    let roomy = end-roomy q (a .exit) is (c .before .sizes-of .ensures) (length (now (a .row))) (b .pre .1) in (
-      (flow, subst (λ (k : Course). CourseLeads k flow) (sym same) q),
-      subst (λ (k : Course). Roomy k (c .before .sizes-of .result) (length (now (a .row)))) (sym same) roomy,
+    let s = c .before in
+    let b = start (s .before) in
+    let q = b .pre .0 .1 in (
+      (b .pre .0 .0, rw (same b) q),
+      rw (same b) (end-roomy q (b .args .exit) (op-is (s .before)) (s .sizes-of .ensures) (length (now (b .args .row))) (b .pre .1)),
     )
 
 last-read-requires : tie.Need-last-read-requires
 last-read-requires c κs =
-    let b = c .before .before .before .before .before .before .before .before in
-    let a = b .args in
-    let way = courseIn (now (a .cells)) (a .steps) (a .t3) (a .w) in
-    let same : way (numbers.back (a .lo)) (numbers.back (a .hi)) ≡ way (a .lo) (a .hi)
-    = λ i. way (toZ-ofZ (b .fits .lo) i) (toZ-ofZ (b .fits .hi) i) in
-    let is = op-by-place (b .pre .0 .1) (a .steps) _ (c .before .before .before .before .before .before .before .place-on .ensures) (c .before .before .before .before .before .before .index .ensures .0) in
-    let flow = b .pre .0 .0 in
+    let w = stepped c in
+    let s = sized w in
+    let b = start (s .before) in
     let q = b .pre .0 .1 in
-    let sizes = c .before .before .before .before .sizes-of in
-    let w = c .before .before .write-steps in
-    let f = subst (λ (k : Course). Following k flow (sizes .result) (now (a .row)) (a .steps) (w .result) (w .last .1 .1 .1 .1 .1 .1 .1 .0)) same
-    (w .ensures flow (subst (λ (k : Course). CourseLeads k flow) (sym same) q)) in
-    rw (toZ-ofZ (b .fits .lo), toZ-ofZ (b .fits .hi)) (end-asks q (a .exit) is (sizes .ensures) (b .pre .0 .2) f (b .pre .1))
+    rw (toZ-ofZ (b .fits .lo), toZ-ofZ (b .fits .hi)) (end-asks q (b .args .exit) (op-is (s .before)) (s .sizes-of .ensures) (b .pre .0 .2) (follows w _ q) (b .pre .1))
 
 returns : tie.Need-returns
 returns c =
-    let b = c .before .before .before .before .before .before .before .before .before .before in
-    let a = b .args in
-    let way = courseIn (now (a .cells)) (a .steps) (a .t3) (a .w) in
-    let same : way (numbers.back (a .lo)) (numbers.back (a .hi)) ≡ way (a .lo) (a .hi)
-    = λ i. way (toZ-ofZ (b .fits .lo) i) (toZ-ofZ (b .fits .hi) i) in
-    let is = op-by-place (b .pre .0 .1) (a .steps) _ (c .before .before .before .before .before .before .before .before .before .place-on .ensures) (c .before .before .before .before .before .before .before .before .index .ensures .0) in
-    let sizes = c .before .before .before .before .before .before .sizes-of in
-    let w = c .before .before .before .before .write-steps in
-    let e = rw (toZ-ofZ (b .fits .lo), toZ-ofZ (b .fits .hi)) at (c .before .last-read .ensures) in
-    λ flow q d.
-    let f = subst (λ (k : Course). Following k flow (sizes .result) (now (a .row)) (a .steps) (w .result) (w .last .1 .1 .1 .1 .1 .1 .1 .0)) same
-    (w .ensures flow (subst (λ (k : Course). CourseLeads k flow) (sym same) q)) in
-    end-written q (a .exit) is (sizes .ensures) d f (b .pre .1) e
+    let read = c .before in
+    let w = stepped (read .before) in
+    let s = sized w in
+    let b = start (s .before) in
+    let e = rw (toZ-ofZ (b .fits .lo), toZ-ofZ (b .fits .hi)) at (read .last-read .ensures) in
+    λ flow q d. end-written q (b .args .exit) (op-is (s .before)) (s .sizes-of .ensures) d (follows w flow q) (b .pre .1) e
 
 pub write-sample-spec : {M : Type 1} → statement M
 write-sample-spec =
