@@ -21,49 +21,60 @@ Inv-loop cells last ops counts₀ t₀ counts t = (t ≤ last) × (counts ≡ re
 abbrev μ-loop : tie.MeasureT-loop
 μ-loop cells last ops counts₀ t₀ counts t = last - t
 
+-- ---- the way back: the instruction picked, and the turn of the loop
+abbrev picked : tie.After-ended Inv-loop μ-loop → tie.After-op Inv-loop μ-loop
+picked c = c .before .before
+
+abbrev turn : tie.After-op Inv-loop μ-loop → tie.In-loop Inv-loop μ-loop
+turn c = c .before .before .before
+
+-- ---- the needs
 loop-holds : tie.Need-loop-holds Inv-loop μ-loop
 loop-holds c = (search needs, reads-start _ _ _)
 
 place-on-requires : tie.Need-place-on-requires Inv-loop μ-loop
 place-on-requires c κs =
-    let p = c .before .before .pre in
-    let l = c .loop-test .taken in
-    on-way _ p (c .before .loop .t) (omega (arith, l))
+    let at = c .before in
+    on-way _ (at .before .pre) (at .loop .t) (omega (arith, c .loop-test .taken))
 
 index-requires : tie.Need-index-requires Inv-loop μ-loop
 index-requires c κs =
-    let p = c .before .before .before .pre in
-    subst Stands (sym (c .place-on .ensures)) (p .stands _ (omega (arith, c .before .loop-test .taken)))
+    let t = c .before in
+    subst Stands (sym (c .place-on .ensures)) (t .before .before .pre .stands _ (omega (arith, t .loop-test .taken)))
 
 place-on-requires-2 : tie.Need-place-on-requires-2 Inv-loop μ-loop
 place-on-requires-2 c κs =
-    let p = c .before .before .before .before .before .pre in
-    let l = c .before .before .before .loop-test .taken in
-    on-way _ p (c .before .before .before .before .loop .t + 1) (omega (arith, l))
+    let at = turn c .before in
+    on-way _ (at .before .pre) (at .loop .t + 1) (omega (arith, turn c .loop-test .taken))
 
 counted-requires : tie.Need-counted-requires Inv-loop μ-loop
 counted-requires c κs a =
-    let l = c .before .before .before .before .before .before .loop in
-    let s = c .before .before .before .before .before .before .before in
+    let at = turn (picked c) .before in
+    let l = at .loop in
+    let s = at .before in
     let e = ap (λ (r : List ℕ). getD r a 0) (l .inv .1) in
     omega (arith, e, reads-few (s .args .t2) (wordColumn placeField (now (s .args .cells))) (column wayField (now (s .args .cells))) (l .t) a, l .inv .0, s .pre .few)
 
 loop-again : tie.Need-loop-again Inv-loop μ-loop
 loop-again c =
-    let s = c .before .before .before .before .before .before .before .before .args in
-    let l = c .before .before .before .before .before .before .before .loop in
-    let i = c .before .before .before .before .index in
-    let next = c .before .before .place-on2 .ensures in
-    let ended = c .before .ended .ensures ∙ ap (λ (p : ℕ). endedOf p (getD (s .t2) (i .result) blank .tape)) next in (
+    let e = c .before in
+    let p = picked e in
+    let at = turn p .before in
+    let s = at .before .args in
+    let l = at .loop in
+    let i = p .before .index in
+    let next = e .before .place-on2 .ensures in
+    let ended = e .ended .ensures ∙ ap (λ (p : ℕ). endedOf p (getD (s .t2) (i .result) blank .tape)) next in (
       search needs,
       reads-more (s .t2) (wordColumn placeField (now (s .cells))) (column wayField (now (s .cells))) (l .t) (i .result) (l .counts) _ _ (l .inv .1)
-          (ap atOf (sym (c .before .before .before .before .before .place-on .ensures)) ∙ i .ensures .0) ended (c .counted .ensures),
+          (ap atOf (sym (p .before .before .place-on .ensures)) ∙ i .ensures .0) ended (c .counted .ensures),
     )
 
 returns : tie.Need-returns Inv-loop μ-loop
 returns c =
-    let s = c .before .before .args in
-    let l = c .before .loop in
+    let at = c .before in
+    let s = at .before .args in
+    let l = at .loop in
     let e : l .t ≡ s .last = omega (arith, l .inv .0, c .loop-test .left) in
     l .inv .1 ∙ ap (readsOn (s .t2) (wordColumn placeField (now (s .cells))) (column wayField (now (s .cells)))) e
 
