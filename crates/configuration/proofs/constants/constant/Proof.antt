@@ -22,39 +22,47 @@ Inv-loop x kind k₀ k-end k = (k ≤ k-end) × (laws.constantFrom (sorts (x .ki
 abbrev μ-loop : tie.MeasureT-loop
 μ-loop x kind k₀ k-end k = k-end - k
 
-loop-holds : tie.Need-loop-holds Inv-loop μ-loop
-loop-holds c = (omega arith, laws.constant-row (c .before .args .x))
+-- ---- the way back: the turn of the loop, and the start
+abbrev turn : tie.After-may-minus Inv-loop μ-loop → tie.In-loop Inv-loop μ-loop
+turn c = c .before .before
 
-within : (c : tie.In-loop Inv-loop μ-loop) → (c .before .loop .k < 4) × (c .before .loop .k < length (sorts (c .before .before .before .args .x .kind)))
-within c = let w = c .before .before .width .ensures in (omega (arith, w, width-bound (c .before .before .before .args .x .kind)), omega (arith, w))
+abbrev start : tie.At-loop Inv-loop μ-loop → tie.Start Inv-loop μ-loop
+start c = c .before .before
+
+within : (c : tie.In-loop Inv-loop μ-loop) → let l = c .before in (l .loop .k < 4) × (l .loop .k < length (sorts (start l .args .x .kind)))
+within c = let l = c .before in let w = l .before .width .ensures in (omega (arith, w, width-bound (start l .args .x .kind)), omega (arith, w))
 
 -- whether field k may have a minus
-minus : (c : tie.After-may-minus Inv-loop μ-loop) → let l = c .before .before .before in
-    c .may-minus .result ≡ mayMinus (getD (sorts (l .before .before .args .x .kind)) (l .loop .k) Target)
+minus : (c : tie.After-may-minus Inv-loop μ-loop) → let l = turn c .before in
+    c .may-minus .result ≡ mayMinus (getD (sorts (start l .args .x .kind)) (l .loop .k) Target)
 minus c = c .may-minus .ensures ∙ ap mayMinus (c .before .sort-at .ensures)
+
+-- ---- the needs
+loop-holds : tie.Need-loop-holds Inv-loop μ-loop
+loop-holds c = (omega arith, laws.constant-row (c .before .args .x))
 
 returns : tie.Need-returns Inv-loop μ-loop
 returns c =
     let m = c .before .before in
-    let l = m .before .before .before in
-    let x = l .before .before .args .x in
+    let l = turn m .before in
+    let x = start l .args .x in
     toZ-ofZ {w = w32} (sfits-of (c .number .ok)) ∙ c .number .ensures
-    ∙ laws.constant-here (sorts (x .kind)) (numbersIn x) (l .loop .k) (within (m .before .before) .1) (sym (minus m) ∙ c .before .if1 .taken)
+    ∙ laws.constant-here (sorts (x .kind)) (numbersIn x) (l .loop .k) (within (turn m) .1) (sym (minus m) ∙ c .before .if1 .taken)
     ∙ l .loop .inv .1
 
 loop-again : tie.Need-loop-again Inv-loop μ-loop
 loop-again c =
     let m = c .before in
-    let l = m .before .before .before in
-    let x = l .before .before .args .x in (
-      omega (arith, m .before .before .loop-test .taken),
-      laws.constant-more (sorts (x .kind)) (numbersIn x) (l .loop .k) (within (m .before .before) .1) (sym (minus m) ∙ c .if1 .left) ∙ l .loop .inv .1,
+    let l = turn m .before in
+    let x = start l .args .x in (
+      omega (arith, turn m .loop-test .taken),
+      laws.constant-more (sorts (x .kind)) (numbersIn x) (l .loop .k) (within (turn m) .1) (sym (minus m) ∙ c .if1 .left) ∙ l .loop .inv .1,
     )
 
 returns-2 : tie.Need-returns-2 Inv-loop μ-loop
 returns-2 c =
     let l = c .before in
-    let x = l .before .before .args .x in
+    let x = start l .args .x in
     laws.constant-none (sorts (x .kind)) (numbersIn x) (l .loop .k) (omega (arith, l .before .width .ensures, c .loop-test .left)) ∙ l .loop .inv .1
 
 pub constant-spec : {M : Type 1} → statement M
@@ -67,7 +75,7 @@ constant-spec =
     loop-holds
     (λ c κs. within c .0)
     (λ c κs. search needs)
-    (λ c κs. omega (arith, within (c .before .before .before) .0))
+    (λ c κs. omega (arith, within (turn (c .before)) .0))
     returns
     (λ c. search needs)
     (λ c. search needs)
