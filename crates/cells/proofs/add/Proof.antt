@@ -5,6 +5,10 @@ use Rattle.cells.proofs.Entering.{room, added, filled-more, marks-added
 use Rattle.cells.proofs.add.Statement.{statement}
 use Rattle.cells.proofs.add.Tie as tie
 
+-- the way: from what is entered back to the bucket
+abbrev hashed : tie.After-enter-arg → tie.After-bucket
+hashed c = c .before .before .before
+
 first-requires : tie.Need-first-requires
 first-requires c κs =
     let b = c .before in
@@ -12,20 +16,20 @@ first-requires c κs =
 
 bucket-fits : tie.Need-cast-enter
 bucket-fits c =
-    let b = c .before .before .before in
+    let b = hashed c in
     let below = b .bucket .ensures .1 in
     let few = b .before .pre .0 .index .few in
     search needs
 
 enter-requires : tie.Need-enter-requires
 enter-requires c κs =
-    let start = c .before .before .before .before in
+    let start = hashed c .before in
     omega (arith, room _ (start .pre .0), start .pre .1)
 
 put-requires : tie.Need-put-requires
 put-requires c κs =
     let e = c .before .before in
-    let b = e .before .before .before .before in
+    let b = hashed (e .before) in
     (omega (arith, room _ (b .before .pre .0), b .bucket .ensures .1, e .enter .kept), omega arith)
 
 returns : tie.Need-returns
@@ -33,7 +37,7 @@ returns c =
     let p = c .before in
     let e = p .before .before .before in
     let g = e .before .before in
-    let b = g .before .before in
+    let b = hashed (e .before) in
     let start = b .before in
     let f = start .pre .0 in
     let l = start .pre .1 in
