@@ -31,7 +31,7 @@ module _ {e e′ : Entries} {count : ℕ} {x : Node} {d p : ℕ} (a : Added e e�
   pub parent-stays : (i : ℕ) → i < count → parentOf e′ i ≡ parentOf e i
   parent-stays i l = before-store (e .parents) (e′ .parents) count i p (a .parents) l
 
-  module _ {heads nexts : List ℕ} {cells : ℕ} (f : Filled e heads nexts count cells) (room : count < cells) where
+  module _ {heads nexts : List ℕ} {cells : ℕ} (f : Filled e heads nexts count cells) (filled-room : count < cells) where
     pub node-entered : nodeOf e′ count ≡ x
     node-entered =
         ap₂ node (at-store (e .places) (e′ .places) count _ (a .places) (omega (arith, f .index .place-room)))
@@ -45,8 +45,8 @@ module _ {e e′ : Entries} {count : ℕ} {x : Node} {d p : ℕ} (a : Added e e�
 
 -- ---- in the cells
 -- what is used is there
-pub room : (c : List (List ℕ)) {count size : ℕ} → FilledIn c count size → size ≤ length c
-room c f = omega (arith, f .index .head-room, length-column headField c)
+pub filled-room : (c : List (List ℕ)) {count size : ℕ} → FilledIn c count size → size ≤ length c
+filled-room c f = omega (arith, f .index .head-room, length-column headField c)
 
 -- cells of which only the marks are new
 pub remarked : (c c′ : List (List ℕ)) → Only marksField c c′ → (P : Rows → Type 0)
@@ -137,8 +137,8 @@ module _ (c c₁ c₂ : List (List ℕ)) (count size place pattern distance pare
         index = inserted _ _ _ _ _ _ _ _ _ _ (f .index) l b first;
         bucket =
             buckets-more (wordColumn placeField c) (wordColumn patternField c) (column bucketField c) count size place pattern h (f .bucket)
-            (omega (arith, room c f, l, length-word-column placeField c)) (omega (arith, room c f, l, length-word-column patternField c))
-            (omega (arith, room c f, l, length-column bucketField c)) b;
+            (omega (arith, filled-room c f, l, length-word-column placeField c)) (omega (arith, filled-room c f, l, length-word-column patternField c))
+            (omega (arith, filled-room c f, l, length-column bucketField c)) b;
         distance-room = simp length-set (f .distance-room);
         parent-room = simp length-set (f .parent-room);
       })
@@ -158,13 +158,13 @@ filled-none c size some fits =
     }
 
 -- and then the start
-pub begun : (c c₁ : List (List ℕ)) {size : ℕ} {x : Node} → FilledIn c 0 size → 0 < size
+pub begun-filled : (c c₁ : List (List ℕ)) {size : ℕ} {x : Node} → FilledIn c 0 size → 0 < size
     → Added (entriesOf (columnsOf c)) (entriesOf (columnsOf c₁)) 0 x 0 0 → FilledIn c₁ 1 size → column marksField c₁ ≡ set (column marksField c) 0 0 → BegunIn c₁ size x
-begun c c₁ empty some a filled marks =
+begun-filled c c₁ empty some a filled marks =
     record {
       filled = filled;
       node = node-entered a empty some;
       distance = distance-entered a empty some;
       parent = parent-entered a empty some;
-      unmarked = λ v. new-unmarked (column marksField c) (column marksField c₁) 0 v marks (omega (arith, room c empty, length-column marksField c));
+      unmarked = λ v. new-unmarked (column marksField c) (column marksField c₁) 0 v marks (omega (arith, filled-room c empty, length-column marksField c));
     }

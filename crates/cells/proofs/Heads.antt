@@ -16,8 +16,8 @@ module _ (c : List (List ℕ)) (count size b head h : ℕ) (f : FilledIn c count
   pub head-zero : h ≡ 0 → LatestIn c count size b 0
   head-zero z = head-void bucket _ _ count b (f .index .chained) (λ i l e s. omega (arith, read, is, z, s))
 
-  pub head-past : count < h → LatestIn c count size b 0
-  head-past past = head-void bucket _ _ count b (f .index .chained) (λ i l e s. omega (arith, read, is, past, s, l))
+  pub head-past-entries : count < h → LatestIn c count size b 0
+  head-past-entries past = head-void bucket _ _ count b (f .index .chained) (λ i l e s. omega (arith, read, is, past, s, l))
 
   -- the bucket that the entry which it names holds
   module _ (r : ℕ) (held : r ≡ getD (column bucketField c) (h - 1) 0) where

@@ -82,18 +82,18 @@ greatest-fold = record { step = further greatest greater (λ c cs. refl) greates
 
 -- ---- the loop over a flow's rows, from the last to the first
 -- the constants of the rows from number i on
-pub rest : Rows → ℕ → List ℤ
-rest flow i = allConstants (map instructionOf (drop i (take (flow .count) (flow .instructions))))
+pub extremes-rest : Rows → ℕ → List ℤ
+extremes-rest flow i = allConstants (map instructionOf (drop i (take (flow .count) (flow .instructions))))
 
-pub rest-none : (flow : Rows) → (pos 0 ≡ least (rest flow (flow .count))) × (pos 0 ≡ greatest (rest flow (flow .count)))
-unfolding rest allConstants least greatest
+pub rest-none : (flow : Rows) → (pos 0 ≡ least (extremes-rest flow (flow .count))) × (pos 0 ≡ greatest (extremes-rest flow (flow .count)))
+unfolding extremes-rest allConstants least greatest
 rest-none flow =
     let e = drop-of-length-le (take (flow .count) (flow .instructions)) {i = flow .count}
     (omega (arith, length-take (flow .count) (flow .instructions))) in
     rw e (refl, refl)
 
-pub rest-all : (flow : Rows) → (least (rest flow 0) ≡ C1 (flowOf flow)) × (greatest (rest flow 0) ≡ C2 (flowOf flow))
-unfolding rest flowOf C1 C2
+pub rest-all : (flow : Rows) → (least (extremes-rest flow 0) ≡ C1 (flowOf flow)) × (greatest (extremes-rest flow 0) ≡ C2 (flowOf flow))
+unfolding extremes-rest flowOf C1 C2
 rest-all flow = (refl, refl)
 
 -- what stands past the rows
@@ -107,17 +107,17 @@ module _ (flow : Rows) (i : ℕ) (h : i < flow .count) (f : List ℤ → ℤ) (g
   abbrev rows : List Row
   rows = take (flow .count) (flow .instructions)
 
-  fold-row : f (rest flow i) ≡ g (constantIn (instructionOf row)) (f (rest flow (suc i)))
-  unfolding rest constants
+  fold-row : f (extremes-rest flow i) ≡ g (constantIn (instructionOf row)) (f (extremes-rest flow (suc i)))
+  unfolding extremes-rest constants
   fold-row = go (ltb i (length (flow .instructions))) refl
     where
-      go : (b : Bool) → ltb i (length (flow .instructions)) ≡ b → f (rest flow i) ≡ g (constantIn (instructionOf row)) (f (rest flow (suc i)))
+      go : (b : Bool) → ltb i (length (flow .instructions)) ≡ b → f (extremes-rest flow i) ≡ g (constantIn (instructionOf row)) (f (extremes-rest flow (suc i)))
       go true e =
           let k = ltb-true i (length (flow .instructions)) e in
           ap (λ (l : List Row). f (allConstants (map instructionOf l)))
           (drop-cons rows i blank (omega (arith, length-take (flow .count) (flow .instructions))))
           ∙ fold .step (instructionOf (getD rows i blank)) (map instructionOf (drop (suc i) rows))
-          ∙ ap (λ (y : Row). g (constantIn (instructionOf y)) (f (rest flow (suc i)))) (getD-take (flow .count) (flow .instructions) i blank h)
+          ∙ ap (λ (y : Row). g (constantIn (instructionOf y)) (f (extremes-rest flow (suc i)))) (getD-take (flow .count) (flow .instructions) i blank h)
       go false e =
           let k = ltb-false i (length (flow .instructions)) e in
           let l = length-take (flow .count) (flow .instructions) in
@@ -130,8 +130,8 @@ module _ (flow : Rows) (i : ℕ) (h : i < flow .count) (f : List ℤ → ℤ) (g
           (sym (fold .zero (allConstants [])))
 
   -- one turn of the loop: k is the row's constant, l the fold so far, r what is taken
-  pub rest-further : (k r l : ℤ) → SFits w32 k → SFits w32 r → k ≡ constantIn (instructionOf row) → l ≡ f (rest flow (suc i)) →
-      r ≡ g (toZ w32 (ofZ w32 k)) l → toZ w32 (ofZ w32 r) ≡ f (rest flow i)
+  pub rest-further : (k r l : ℤ) → SFits w32 k → SFits w32 r → k ≡ constantIn (instructionOf row) → l ≡ f (extremes-rest flow (suc i)) →
+      r ≡ g (toZ w32 (ofZ w32 k)) l → toZ w32 (ofZ w32 r) ≡ f (extremes-rest flow i)
   rest-further k r l fk fr ek el er = toZ-ofZ fr ∙ er ∙ ap₂ g (toZ-ofZ fk ∙ ek) el ∙ sym fold-row
 
 pub picked-left : (b : Bool) (x y : ℤ) → b ≡ true → x ≡ cond b x y

@@ -13,7 +13,7 @@ use lib.Dec.{leb}
 use Rattle.model.specs.Language.{Instruction, Field, fields, constants}
 use Rattle.flow.specs.Words.{sorts, mayMinus, count, at, built}
 use Rattle.flow.specs.inner.Reader.{field}
-use Rattle.flow.specs.Code.{kind, numbers, numbersIn}
+use Rattle.flow.specs.Code.{kind, numbers}
 use Rattle.flow.specs.Read.{all, inRange, isNamed}
 use Rattle.flow.specs.inner.Reader.{HeadFits}
 use Rattle.flow.proofs.RowLaws.{placed}
@@ -25,7 +25,7 @@ use Rattle.flow.specs.declared.Sort.{Sort}
 use Rattle.flow.specs.declared.Sort.the-variants.{Tape, Output, Variable, Target, Constant}
 use Rattle.flow.proofs.SortLaws.{sort-field, number-field, constants-field}
 use Rattle.flow.proofs.RowLaws.{tried, fields-built, parts-built}
-use Rattle.flow.specs.inner.Rows.{instructionOf}
+use Rattle.flow.specs.inner.Rows.{instructionOf, numbersIn}
 use Rattle.configuration.specs.inner.Prepare.{isCount, FitBytes, constantIn, formed}
 use Rattle.configuration.specs.inner.Op.{offset, opOf}
 use Rattle.configuration.specs.declared.Op.{Op}

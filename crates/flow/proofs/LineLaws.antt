@@ -194,25 +194,25 @@ module _ (count : ℕ) (fs : List (List ℕ)) where
       (omega (arith, leb-true (count + 1) 64 few), rw same at (eqb-true (length fs) (length (sorts k) + 2) wide))
 
 -- ---- what the line of instruction count + 1 is read as, in the code's three steps: before its numbers, its numbers, behind them
-abbrev pub stepped : Head → ℕ → List (List ℕ) → Checked Row
-stepped h count fs =
+abbrev pub line-stepped : Head → ℕ → List (List ℕ) → Checked Row
+line-stepped h count fs =
     after (beginLine count fs) (λ s.
     given (numerals (sorts (s .kind)) (drop 2 fs)) (BadNumber (count + 2)) (λ zs.
     endLine h count (s .number) (row (s .kind) (map bounded zs))))
 
 -- by what the code finds: a fault before the numbers, a number that is badly written, all numbers and the row
 module _ (h : Head) (count : ℕ) (fs : List (List ℕ)) where
-  pub steps-begin : (r : Refusal) → beginLine count fs ≡ fault r → stepped h count fs ≡ fault r
+  pub steps-begin : (r : Refusal) → beginLine count fs ≡ fault r → line-stepped h count fs ≡ fault r
   steps-begin r e = rw e
 
   module _ (s : Start) (e : beginLine count fs ≡ ok s) where
-    pub steps-bad : numerals (sorts (s .kind)) (drop 2 fs) ≡ none → stepped h count fs ≡ fault (BadNumber (count + 2))
+    pub steps-bad : numerals (sorts (s .kind)) (drop 2 fs) ≡ none → line-stepped h count fs ≡ fault (BadNumber (count + 2))
     steps-bad q = rw (e, q)
 
-    pub steps-end : (zs : List ℤ) → numerals (sorts (s .kind)) (drop 2 fs) ≡ some zs
+    pub line-steps-end : (zs : List ℤ) → numerals (sorts (s .kind)) (drop 2 fs) ≡ some zs
         → (ns : List ℤ) → map bounded zs ≡ take (length (sorts (s .kind))) ns → drop (length (sorts (s .kind))) ns ≡ replicate (4 - length (sorts (s .kind))) (pos 0)
-        → endLine h count (s .number) (row (s .kind) ns) ≡ stepped h count fs
-    steps-end zs q ns front rest = rw (e, q, row-read (s .kind) zs ns front rest)
+        → endLine h count (s .number) (row (s .kind) ns) ≡ line-stepped h count fs
+    line-steps-end zs q ns front rest = rw (e, q, row-read (s .kind) zs ns front rest)
 
 -- the row that is kept of it
 abbrev rowed : Checked Instruction → Checked Row
@@ -269,7 +269,7 @@ module _ (h : Head) (fits : HeadFits h) (count : ℕ) (fs : List (List ℕ)) whe
       by true false = refl
       by false t = refl
 
-  pub line-steps : rowed (check (leb (count + 1) maxInstructions) TooManyLines (readLine h (count + 1) fs)) ≡ stepped h count fs
+  pub line-steps : rowed (check (leb (count + 1) maxInstructions) TooManyLines (readLine h (count + 1) fs)) ≡ line-stepped h count fs
   unfolding readLine beginLine
   line-steps =
       rw line
@@ -320,16 +320,16 @@ module _ (s : List ℕ) (at : ℕ) (h : Head) (xs : List Row) (count : ℕ) {X :
     abbrev rest : Checked (List Instruction)
     rest = readLines h (suc (count + 1)) (lines (drop (e + 1) s))
 
-    next-line : followed (take count xs) (stepped h count fs) (keptRows rest) ≡ X
+    next-line : followed (take count xs) (line-stepped h count fs) (keptRows rest) ≡ X
     unfolding readLines
     next-line =
         rw (← line-steps h fits count fs)
         (sym (line-followed (take count xs) (leb (count + 1) maxInstructions) (readLine h (count + 1) fs) rest) ∙ (rw (lines-at s at e found l) at inv))
 
-    pub lines-fault : (r : Refusal) → stepped h count fs ≡ fault r → fault r ≡ X
+    pub lines-fault : (r : Refusal) → line-stepped h count fs ≡ fault r → fault r ≡ X
     lines-fault r q = rw q at next-line
 
-    pub lines-more : (row : Row) → count < length xs → stepped h count fs ≡ ok row
+    pub lines-more : (row : Row) → count < length xs → line-stepped h count fs ≡ ok row
         → prepended (take (count + 1) (set xs count row)) (keptRows (readLines h (count + 1 + 1) (lines (drop (e + 1) s)))) ≡ X
     lines-more row n q =
         let t : take (count + 1) (set xs count row) ≡ take count xs ++ (row ∷ []) = rw add-one (take-suc-set xs count row n) in

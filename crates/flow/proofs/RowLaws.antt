@@ -17,13 +17,13 @@ use Rattle.text.specs.Split.{sameWord}
 use Rattle.flow.specs.Words.{table, kinds, firstNamed, kindOf, sorts, at, built}
 use Rattle.flow.specs.inner.Reader.{field}
 use Rattle.flow.specs.Read.{all}
-use Rattle.flow.specs.Code.{kind, numbers, row, numbersIn, rowOf}
+use Rattle.flow.specs.Code.{kind, numbers, row, rowOf}
 use Rattle.flow.specs.inner.Reader.{four}
 use Rattle.flow.specs.declared.Kind.{Kind}
 use Rattle.flow.specs.declared.Kind.the-variants.{Read, Put, Copy, Set, Less, Over, Under, Nop, Stop}
 use Rattle.flow.specs.declared.Sort.{Sort}
 use Rattle.flow.specs.declared.Sort.the-variants.{Target}
-use Rattle.flow.specs.inner.Rows.{instructionOf}
+use Rattle.flow.specs.inner.Rows.{instructionOf, numbersIn}
 
 -- the fields of some sorts that hold the numbers from place j on
 abbrev pub placed : List Sort → List ℤ → ℕ → List Field
@@ -112,17 +112,17 @@ module _ (test : Field → Bool) (ss : List Sort) (ns : List ℤ) where
   abbrev pub tested : ℕ → Bool
   tested k = all test (placed (drop k ss) ns k)
 
-  abbrev pub holds : ℕ → Bool
-  holds k = test (field (getD ss k Target) (at ns k))
+  abbrev pub row-holds : ℕ → Bool
+  row-holds k = test (field (getD ss k Target) (at ns k))
 
-  one-tested : (k : ℕ) → k < length ss → tested k ≡ (holds k && tested (k + 1))
+  one-tested : (k : ℕ) → k < length ss → tested k ≡ (row-holds k && tested (k + 1))
   unfolding all
   one-tested k l = rw (drop-cons ss k Target l, add-one k)
 
-  pub test-fails : (k : ℕ) → k < length ss → holds k ≡ false → false ≡ tested k
+  pub test-fails : (k : ℕ) → k < length ss → row-holds k ≡ false → false ≡ tested k
   test-fails k l e = rw (one-tested k l, e)
 
-  pub test-holds : (k : ℕ) → k < length ss → holds k ≡ true → tested (k + 1) ≡ tested k
+  pub test-holds : (k : ℕ) → k < length ss → row-holds k ≡ true → tested (k + 1) ≡ tested k
   test-holds k l e = rw (one-tested k l, e)
 
   pub tests-end : (k : ℕ) → length ss ≤ k → true ≡ tested k

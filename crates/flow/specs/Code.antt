@@ -1,5 +1,5 @@
 -- How the code holds a flow: a row for each instruction, in the order of the lines, and rows of `stop` up to 64.
-use mathlib.Core.List.{List, [], _∷_, _++_, map}
+use mathlib.Core.List.{List, [], _++_, map}
 use Prim.Native.Nat.{_-_}
 use lib.IntN.{ℤ}
 use lib.ListN.{length, replicate}
@@ -33,9 +33,6 @@ numbers x = map number (fields x)
 -- a row is a line: the kind, and the numbers after the word in their order, 0 past the last
 abbrev pub row : Kind → List ℤ → Row
 row k zs = record { kind = k; first = at zs 0; second = at zs 1; third = at zs 2; fourth = at zs 3 }
-
-abbrev pub numbersIn : Row → List ℤ
-numbersIn x = x .first ∷ x .second ∷ x .third ∷ x .fourth ∷ []
 
 -- the row of an instruction
 abbrev pub rowOf : Instruction → Row

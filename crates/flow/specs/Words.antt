@@ -8,7 +8,7 @@ use Prim.Native.Nat.{ℕ}
 use Prim.Native.String.{String}
 use lib.IntN.{ℤ, pos, negsuc}
 use lib.ListN.{getD}
-use Rattle.model.specs.Language.{Instruction, read, put, copy, const, less, over, under, nop, stop, hasExits, Field, tape, output, variable, target, constant}
+use Rattle.model.specs.Language.{Instruction, read, put, copy, const, less, over, under, nop, stop, Field, tape, output, variable, target, constant}
 use Rattle.text.specs.Split.{sameWord}
 use Rattle.text.specs.Bytes.{bytes}
 use Rattle.flow.specs.declared.Kind.{Kind}
@@ -71,10 +71,6 @@ at zs j = getD zs j (pos 0)
 -- the instruction of a kind, from the numbers after the word
 abbrev pub built : Kind → List ℤ → Instruction
 built k zs = table k .make (λ j. count (at zs j)) (at zs)
-
--- whether the instructions of a kind have two exits
-abbrev pub branches : Kind → Bool
-branches k = hasExits (built k [])
 
 -- the sort of a field, and the number in it
 abbrev pub sort : Field → Sort

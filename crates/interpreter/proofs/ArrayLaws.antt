@@ -15,8 +15,7 @@ use Rattle.flow.specs.declared.Instruction.{Instruction as Row}
 use Rattle.flow.specs.declared.Kind.{Kind}
 use Rattle.flow.specs.declared.Kind.the-variants.{Read}
 use Rattle.flow.specs.Limits.{maxTapes, maxVariables}
-use Rattle.flow.specs.Words.{branches}
-use Rattle.flow.specs.inner.Rows.{instructionOf}
+use Rattle.flow.specs.inner.Rows.{instructionOf, branches}
 use Rattle.interpreter.proofs.RowLaws.{put-fits}
 use Rattle.interpreter.specs.declared.Onward.{Onward}
 use Rattle.interpreter.specs.inner.Arrays.{countAt, eitherOn, exitWhen, leftIn, held, Placed, RowFits, outputs, Stepped}

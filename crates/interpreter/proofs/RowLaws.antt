@@ -13,7 +13,6 @@ use Rattle.model.specs.Language.{Instruction, stop, instruction, fields}
 use Rattle.model.specs.Machine.{State, value, stepBy}
 use Rattle.model.proofs.View.{onTape, taken, stepView, step-by}
 use Rattle.model.specs.inner.View.{View, reads, sets, tests, goes, stops as ends, view, term, Targeted}
-use Rattle.flow.specs.Code.{numbersIn}
 use Rattle.flow.specs.Legal.{Legal, head}
 use Rattle.flow.specs.Read.{all, isNamed}
 use Rattle.flow.specs.declared.Flow.{Flow as Rows}
@@ -23,7 +22,7 @@ use Rattle.flow.specs.declared.Kind.the-variants.{Put}
 use Rattle.flow.specs.Words.{built}
 use Rattle.flow.proofs.RowLaws.{tried}
 use Rattle.flow.proofs.Tests.{named-targets}
-use Rattle.flow.specs.inner.Rows.{instructionOf, flowOf}
+use Rattle.flow.specs.inner.Rows.{instructionOf, flowOf, numbersIn}
 use Rattle.interpreter.proofs.Narrow.{ranges-fit, fit-more}
 use Rattle.interpreter.specs.inner.Arrays.{FieldsFit, RowFits, countAt, stops, outputs}
 use Rattle.interpreter.specs.Run.{Output, isStop, putsBy}

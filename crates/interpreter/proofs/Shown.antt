@@ -22,8 +22,7 @@ use Rattle.flow.specs.declared.Instruction.{Instruction as Row}
 use Rattle.flow.proofs.Tests.{ranges-sound}
 use Rattle.interpreter.proofs.Narrow.{Narrow, same-value, narrow-step, narrow-exit}
 use Rattle.interpreter.proofs.RowLaws.{putting, row-stops, row-puts, put-fits, leads-on, row-is, flow-fits}
-use Rattle.flow.specs.Words.{branches}
-use Rattle.flow.specs.inner.Rows.{instructionOf, flowOf}
+use Rattle.flow.specs.inner.Rows.{instructionOf, flowOf, branches}
 use Rattle.interpreter.specs.declared.Onward.{Onward}
 use Rattle.interpreter.specs.inner.Arrays.{FieldsFit, countAt, held, Placed, stops, outputs, exitWhen, Stepped}
 use Rattle.interpreter.specs.Run.{Output, Progress, coming, putsBy, counted, onward, isStop, fit, written}

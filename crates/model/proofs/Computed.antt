@@ -197,12 +197,12 @@ module _ (lo hi : ℤ) (flow : Flow) where
   fedTargets (goes n) c = []
   fedTargets stops c = []
 
-  abbrev pub targets : Configuration → List Configuration
-  targets c = configuration lo hi (step flow (trial lo hi flow c)) ∷ fedTargets (viewAt flow (c .next)) c
+  abbrev pub stepTargets : Configuration → List Configuration
+  stepTargets c = configuration lo hi (step flow (trial lo hi flow c)) ∷ fedTargets (viewAt flow (c .next)) c
 
   abbrev pub allTargets : List Configuration → List Configuration
   allTargets [] = []
-  allTargets (c ∷ l) = targets c ++ allTargets l
+  allTargets (c ∷ l) = stepTargets c ++ allTargets l
 
   abbrev pub fringe : List Configuration → List Configuration
   fringe l = origin lo hi flow ∷ allTargets l
@@ -227,7 +227,7 @@ module _ (lo hi : ℤ) (flow : Flow) where
   found i e (c ∷ l) = exitAt i e c || found i e l
 
   -- ---- the lists are those of the graph
-  edge-target : {o : Option Exit} {c c′ : Configuration} → Edge lo hi flow c o c′ → In c′ (targets c)
+  edge-target : {o : Option Exit} {c c′ : Configuration} → Edge lo hi flow c o c′ → In c′ (stepTargets c)
   edge-target still = inl refl
   edge-target {c = c} (fed a v p m y i o near) =
       let (h, k) = near-in near in
@@ -235,12 +235,12 @@ module _ (lo hi : ℤ) (flow : Flow) where
       let here = span-has (width lo hi w) (lo +ℤ negℤ (pos w)) y (omega (arith, sub-pos lo w)) (omega (arith, sub-pos lo w)) in
       inr (rw (i, o) (in-map (λ (u : ℤ). fedWith lo hi v p u c) y (trials w) here))
 
-  among-targets : (k : List Configuration) (c x : Configuration) → In c k → In x (targets c) → In x (allTargets k)
-  among-targets (d ∷ k) c x (inl e) h = in-left (targets d) (allTargets k) x (subst (λ (b : Configuration). In x (targets b)) e h)
-  among-targets (d ∷ k) c x (inr p) h = in-right (targets d) (allTargets k) x (among-targets k c x p h)
+  among-targets : (k : List Configuration) (c x : Configuration) → In c k → In x (stepTargets c) → In x (allTargets k)
+  among-targets (d ∷ k) c x (inl e) h = in-left (stepTargets d) (allTargets k) x (subst (λ (b : Configuration). In x (stepTargets b)) e h)
+  among-targets (d ∷ k) c x (inr p) h = in-right (stepTargets d) (allTargets k) x (among-targets k c x p h)
 
-  targets-of : (k : List Configuration) (x : Configuration) → In x (allTargets k) → Some (λ c. In x (targets c)) k
-  targets-of (d ∷ k) x h = either-some (λ c. In x (targets c)) d k (in-either (targets d) (allTargets k) x h) (targets-of k x)
+  targets-of : (k : List Configuration) (x : Configuration) → In x (allTargets k) → Some (λ c. In x (stepTargets c)) k
+  targets-of (d ∷ k) x h = either-some (λ c. In x (stepTargets c)) d k (in-either (stepTargets d) (allTargets k) x h) (targets-of k x)
 
   in-found : (i : ℕ) (e : Exit) (k : List Configuration) (c : Configuration) → In c k → T (exitAt i e c) → T (found i e k)
   in-found i e (d ∷ k) c (inl p) h = or-left (exitAt i e d) (found i e k) (subst (λ (b : Configuration). T (exitAt i e b)) p h)
@@ -250,7 +250,7 @@ module _ (lo hi : ℤ) (flow : Flow) where
   found-in i e (d ∷ k) h = either-some (λ c. T (exitAt i e c)) d k (or-in (exitAt i e d) (found i e k) h) (found-in i e k)
 
   module _ (l : LegalFlow lo hi flow) where
-    target-edge : (c c′ : Configuration) → In c′ (targets c) → (o : Option Exit) × Edge lo hi flow c o c′
+    target-edge : (c c′ : Configuration) → In c′ (stepTargets c) → (o : Option Exit) × Edge lo hi flow c o c′
     target-edge c c′ (inl e) = (exitOf flow (trial lo hi flow c), subst (Edge lo hi flow c (exitOf flow (trial lo hi flow c))) (sym e) still)
     target-edge c c′ (inr h) = go (viewAt flow (c .next)) refl h
       where

@@ -65,14 +65,14 @@ module _ {lo hi : ℤ} {flow : Flow} (l : LegalFlow lo hi flow) where
 
   module _ {n r : ℕ} {tapes : List (List ℤ)} {k : ℕ} {v : List ℤ} {e : List Bool} (s : RunStands lo hi flow n r tapes k v e) where
     -- a step that reads no record
-    abbrev pub after : State
-    after = step flow (resting flow k v e)
+    abbrev pub restedAfter : State
+    restedAfter = step flow (resting flow k v e)
 
-    pub stands-silent : RunStands lo hi flow (suc n) r tapes (after .next) (after .variables) (after .ended)
+    pub stands-silent : RunStands lo hi flow (suc n) r tapes (restedAfter .next) (restedAfter .variables) (restedAfter .ended)
     stands-silent = record {
       count = s .count;
       is = steps-end flow n (start flow tapes) ∙ ap (step flow) (s .is)
-          ∙ ap (λ (q : List (List ℤ)). record { next = after .next; variables = after .variables; left = q; ended = after .ended }) emptied;
+          ∙ ap (λ (q : List (List ℤ)). record { next = restedAfter .next; variables = restedAfter .variables; left = q; ended = restedAfter .ended }) emptied;
       near = s .near;
       values-near = subst (λ (t : State). All (Near lo hi r) (t .variables)) (sym (step-view flow (resting flow k v e)))
           (near-step r (viewAt flow k) (sound l k) k v e (s .values-near));
@@ -80,7 +80,7 @@ module _ {lo hi : ℤ} {flow : Flow} (l : LegalFlow lo hi flow) where
       few = omega (arith, s .few);
     }
       where
-        emptied : after .left ≡ replicate (flow .tapes) []
+        emptied : restedAfter .left ≡ replicate (flow .tapes) []
         emptied = ap (λ (t : State). t .left) (step-view flow (resting flow k v e)) ∙ step-left flow (viewAt flow k) k v e
 
     pub takes-silent : (x : Exit) → exitOf flow (resting flow k v e) ≡ some x → Takes flow tapes k x (suc n)

@@ -51,23 +51,23 @@ module _ {lo hi : ℤ} {flow : Flow} (l : LegalFlow lo hi flow) where
     abbrev pub here : State
     here = resting flow (c .next) v (c .ended)
 
-    abbrev pub after : State
-    after = step flow here
+    abbrev pub followsAfter : State
+    followsAfter = step flow here
 
     same : configuration lo hi here ≡ c
     same = ap (λ (m : List Mark). record { next = c .next; ended = c .ended; marks = m }) (q .marks)
 
     -- an edge that reads no record: the tapes stay, the values are those of the run's own step
     silent : (exitOf flow (trial lo hi flow (configuration lo hi here)) ≡ exitOf flow here)
-        × (configuration lo hi (step flow (trial lo hi flow (configuration lo hi here))) ≡ configuration lo hi after)
+        × (configuration lo hi (step flow (trial lo hi flow (configuration lo hi here))) ≡ configuration lo hi followsAfter)
     silent = silent-step l here (silent-resting flow (viewAt flow (c .next)) (c .next) v (c .ended))
 
-    pub follows-still : Follows lo hi flow (suc n) r tapes (after .variables) (configuration lo hi (step flow (trial lo hi flow c)))
+    pub follows-still : Follows lo hi flow (suc n) r tapes (followsAfter .variables) (configuration lo hi (step flow (trial lo hi flow c)))
     follows-still =
-        let goes : configuration lo hi after ≡ configuration lo hi (step flow (trial lo hi flow c))
+        let goes : configuration lo hi followsAfter ≡ configuration lo hi (step flow (trial lo hi flow c))
         = sym (silent .1) ∙ ap (λ (d : Configuration). configuration lo hi (step flow (trial lo hi flow d))) same in
         record {
-          stands = subst (λ (d : Configuration). RunStands lo hi flow (suc n) r tapes (d .next) (after .variables) (d .ended)) goes
+          stands = subst (λ (d : Configuration). RunStands lo hi flow (suc n) r tapes (d .next) (followsAfter .variables) (d .ended)) goes
               (stands-silent l (q .stands));
           marks = ap (λ (d : Configuration). d .marks) goes;
         }
@@ -107,7 +107,7 @@ module _ {lo hi : ℤ} {flow : Flow} (l : LegalFlow lo hi flow) where
   pub extend : (n : ℕ) (c c′ : Configuration) (o : Option Exit) → Real lo hi flow n c → Edge lo hi flow c o c′
       → (q : Real lo hi flow (suc n) c′) × ((x : Exit) → o ≡ some x → Takes flow (q .tapes) (c .next) x (suc n))
   extend n c c′ o q still = (
-    record { r = q .r; tapes = q .tapes; values = after l (q .follows) .variables; follows = follows-still l (q .follows) },
+    record { r = q .r; tapes = q .tapes; values = followsAfter l (q .follows) .variables; follows = follows-still l (q .follows) },
     takes-still l (q .follows),
   )
   extend n c c′ o q (fed a u p m y i open-still near) =

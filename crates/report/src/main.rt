@@ -1,6 +1,6 @@
 // Prints the report of the flow on standard input, with 4,096 cells lent (document 01, "The report"): the row of `render::report_of`.
 // What cannot be read has no report: then one line says so on standard error, and standard output is empty.
-ghost use Rattle.report.specs.Input.{FillsBuffer};
+ghost use Rattle.report.specs.inner.Input.{FillsBuffer};
 use flow::Flow;
 use libc::EINTR;
 use libc::STDERR_FILENO;

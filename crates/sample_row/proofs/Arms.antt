@@ -41,9 +41,9 @@ module _ (lo hi y : ℤ) (w v : List ℤ) where
 
 -- ---- taken apart
 module _ (c : Choice) (x : ℤ) (h : c ≡ Take x) where
-  pub take-map : (l : List ℤ) → l ≡ map (moveOf c) l
+  pub choice-take-map : (l : List ℤ) → l ≡ map (moveOf c) l
   unfolding moveOf
-  take-map l = sym (ap (λ (q : Choice). map (moveOf q) l) h ∙ map-same (λ y. y) (λ y. refl) l)
+  choice-take-map l = sym (ap (λ (q : Choice). map (moveOf q) l) h ∙ map-same (λ y. y) (λ y. refl) l)
 
   pub take-record : x ≡ recordOf c
   unfolding recordOf

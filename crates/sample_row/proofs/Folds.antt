@@ -24,8 +24,8 @@ module _ (y : ℤ) (l : List ℤ) (i : ℕ) where
   unfolding firstAt
   first-step h = rw (drop-cons l i (pos 0) h, add-one)
 
-  pub first-found : i < length l → equal (getD l i (pos 0)) y ≡ true → i ≡ firstAt i y (drop i l)
-  first-found h e = sym (first-step h ∙ rw e)
+  pub first-at-found : i < length l → equal (getD l i (pos 0)) y ≡ true → i ≡ firstAt i y (drop i l)
+  first-at-found h e = sym (first-step h ∙ rw e)
 
   pub first-past : i < length l → equal (getD l i (pos 0)) y ≡ false → firstAt (i + 1) y (drop (i + 1) l) ≡ firstAt i y (drop i l)
   first-past h e = sym (first-step h ∙ rw e)

@@ -167,9 +167,9 @@ module _ {lo hi : ℤ} {w : ℕ} {flow : Flow} (f : FlowFits lo hi w flow) {r : 
               (l, subst (λ (z : Words). WordEdge w (opAt lo flow z) z l y) (g .nodes k stored) e))
 
   -- no entry is left
-  pub finished : n ≤ k → Finished lo w flow r cells n
+  pub search-finished : n ≤ k → Finished lo w flow r cells n
   unfolding tableOf
-  finished end =
+  search-finished end =
       record {
         complete = record { sound = x .searching .sound; closed = finish (x .searching) end; sorted = x .searching .sorted };
         filled = x .ready .filled;

@@ -9,7 +9,7 @@ use Rattle.cells.specs.inner.Index.{Node, node, FoundIs}
 use Rattle.cells.specs.inner.Entries.{Entries, Filled, Added}
 use Rattle.cells.specs.declared.Found.{Found}
 use Rattle.cells.specs.declared.Found.the-variants.{At as Hit, Nothing}
-use Rattle.cells.proofs.Walk.{found-at, found-nothing}
+use Rattle.cells.proofs.Walk.{found-at, find-nothing}
 use Rattle.cells.proofs.Entering.{node-stays, distance-stays, parent-stays, node-entered, distance-entered, parent-entered}
 use Rattle.search_table.specs.inner.Table.{wordsAt, tableOf}
 use Rattle.search_visit.specs.inner.Visit.{none, more, Outgrown, Met, VisitedIs}
@@ -29,7 +29,7 @@ words-node e = ap (λ (x : Words). node (x .place) (x .pattern)) e
 fresh : (e : Entries) (count : ℕ) {y : Words} (h : Found) → FoundIs (e .places) (e .patterns) count (node (y .place) (y .pattern)) h → h ≡ Nothing
     → Fresh (tableOf e count) y
 unfolding tableOf
-fresh e count {y} h is q j l s = found-nothing (e .places) (e .patterns) count (node (y .place) (y .pattern)) h is q j l (words-node s)
+fresh e count {y} h is q j l s = find-nothing (e .places) (e .patterns) count (node (y .place) (y .pattern)) h is q j l (words-node s)
 
 module _ {e : Entries} {heads nexts : List ℕ} {count cells d k : ℕ} {y : Words} (f : Filled e heads nexts count cells) (h : Found)
     (is : FoundIs (e .places) (e .patterns) count (node (y .place) (y .pattern)) h) where

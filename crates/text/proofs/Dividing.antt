@@ -37,8 +37,8 @@ pub record EndStored (ends next : List ℕ) (count end : ℕ) : Type 0 where
   pub before : (k : ℕ) → k < kept → k < count → getD next k 0 ≡ getD ends k 0
 
 module _ (ends : List ℕ) (count end : ℕ) where
-  pub room : length ends ≡ kept → count < kept → EndStored ends (set ends count end) count end
-  room size h = record {
+  pub end-room : length ends ≡ kept → count < kept → EndStored ends (set ends count end) count end
+  end-room size h = record {
     here = λ l. getD-set-same ends count end 0 (omega arith);
     before = λ k l m. getD-set-other ends count k end 0 (λ q. omega arith);
   }

@@ -1,7 +1,7 @@
 -- `cells::add` meets its contract: the entry is written, and its bucket's head leads to it (proofs/Entering.antt).
 use native.Mathlib.Omega.{arith}
 use borrow.Author.Needs.{needs}
-use Rattle.cells.proofs.Entering.{room, added, filled-more, marks-added}
+use Rattle.cells.proofs.Entering.{filled-room, added, filled-more, marks-added}
 use Rattle.cells.proofs.add.Statement.{statement}
 use Rattle.cells.proofs.add.Tie as tie
 
@@ -24,13 +24,13 @@ bucket-fits c =
 enter-requires : tie.Need-enter-requires
 enter-requires c κs =
     let start = hashed c .before in
-    omega (arith, room _ (start .pre .0), start .pre .1)
+    omega (arith, filled-room _ (start .pre .0), start .pre .1)
 
 put-requires : tie.Need-put-requires
 put-requires c κs =
     let e = c .before .before in
     let b = hashed (e .before) in
-    (omega (arith, room _ (b .before .pre .0), b .bucket .ensures .1, e .enter .kept), omega arith)
+    (omega (arith, filled-room _ (b .before .pre .0), b .bucket .ensures .1, e .enter .kept), omega arith)
 
 returns : tie.Need-returns
 returns c =

@@ -9,7 +9,7 @@ use denote.Ref.{now}
 use lib.ListN.{length}
 use Rattle.cells.specs.inner.Columns.{placeField, patternField, wordColumn}
 use Rattle.cells.specs.inner.Index.{Node, node, FoundIs}
-use Rattle.cells.proofs.Entering.{room}
+use Rattle.cells.proofs.Entering.{filled-room}
 use Rattle.cells.proofs.Walk.{Walking, walk-start, walk-falls, walk-next}
 use Rattle.cells.proofs.find.Statement.{statement}
 use Rattle.cells.proofs.find.Tie as tie
@@ -29,7 +29,7 @@ start c = c .before .before .before .before
 
 -- the entry where the walk stands is there
 there : (c : tie.In-loop Inv-loop μ-loop) → c .before .loop .cur - 1 < length (now (start (c .before) .args .cells))
-there c = omega (arith, room _ (start (c .before) .pre), c .before .loop .inv .within, c .loop-test .taken)
+there c = omega (arith, filled-room _ (start (c .before) .pre), c .before .loop .inv .within, c .loop-test .taken)
 
 -- ---- the needs
 first-requires : tie.Need-first-requires Inv-loop μ-loop

@@ -2,13 +2,13 @@
 use mathlib.Core.Path.{_∙_}
 use native.Mathlib.Omega.{arith}
 use borrow.Author.Needs.{needs}
-use Rattle.cells.proofs.Entering.{room}
-use Rattle.cells.proofs.Heads.{head-zero, head-past, head-counts, head-other}
+use Rattle.cells.proofs.Entering.{filled-room}
+use Rattle.cells.proofs.Heads.{head-zero, head-past-entries, head-counts, head-other}
 use Rattle.cells.proofs.first.Statement.{statement}
 use Rattle.cells.proofs.first.Tie as tie
 
 get-requires : tie.Need-get-requires
-get-requires c κs = (omega (arith, room _ (c .pre .0), c .pre .1), omega arith)
+get-requires c κs = (omega (arith, filled-room _ (c .pre .0), c .pre .1), omega arith)
 
 returns : tie.Need-returns
 returns c =
@@ -21,12 +21,12 @@ returns-2 c =
     let w = c .before .before in
     let g = w .before in
     let f = g .before .pre .0 in
-    head-past _ _ _ _ _ _ f (g .get .ensures) (w .wide .ensures) (omega (arith, c .if2 .taken, f .index .within, f .index .few))
+    head-past-entries _ _ _ _ _ _ f (g .get .ensures) (w .wide .ensures) (omega (arith, c .if2 .taken, f .index .within, f .index .few))
 
 get-requires-2 : tie.Need-get-requires-2
 get-requires-2 c κs =
     let f = c .before .before .before .before .pre .0 in
-    (omega (arith, room _ f, f .index .some, f .index .within, c .if2 .left), omega arith)
+    (omega (arith, filled-room _ f, f .index .some, f .index .within, c .if2 .left), omega arith)
 
 returns-3 : tie.Need-returns-3
 returns-3 c =

@@ -8,11 +8,11 @@ use lib.ListN.{getD}
 use Rattle.model.specs.Language.{Instruction, fields, constants}
 use Rattle.flow.specs.Limits.{maxVariables}
 use Rattle.flow.specs.Words.{sorts, mayMinus, count, at}
-use Rattle.flow.specs.Code.{numbersIn}
 use Rattle.flow.specs.declared.Instruction.{Instruction as Row}
 use Rattle.flow.specs.declared.Sort.{Sort}
 use Rattle.flow.specs.declared.Kind.{Kind}
 use Rattle.flow.specs.declared.Kind.the-variants.{Read, Put, Copy, Set, Less, Over, Under, Nop, Stop}
+use Rattle.flow.specs.inner.Rows.{numbersIn}
 use Rattle.configuration.specs.inner.Op.{readOp, assignOp, testOp, goOp, stopOp}
 use Rattle.configuration.specs.declared.Op.{Op}
 

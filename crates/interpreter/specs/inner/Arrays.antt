@@ -9,13 +9,12 @@ use lib.ListN.{length, getD, take}
 use lib.Seq.{slice}
 use Rattle.model.specs.Language.{Field, tape, output, variable, target, constant, fields}
 use Rattle.model.specs.Machine.{State, stepBy, Exit, exitIf, exitBy}
-use Rattle.flow.specs.Words.{count, at, built, branches}
-use Rattle.flow.specs.Code.{numbersIn}
+use Rattle.flow.specs.Words.{count, at, built}
 use Rattle.flow.specs.Limits.{maxTapes, maxVariables}
 use Rattle.flow.specs.declared.Flow.{Flow as Rows}
 use Rattle.flow.specs.declared.Instruction.{Instruction as Row}
 use Rattle.flow.specs.declared.Kind.{Kind}
-use Rattle.flow.specs.inner.Rows.{instructionOf, flowOf}
+use Rattle.flow.specs.inner.Rows.{instructionOf, flowOf, numbersIn, branches}
 use Rattle.interpreter.specs.declared.Onward.{Onward}
 use Rattle.interpreter.specs.Run.{Output, Outcome, isStop, putsBy, begin, limited}
 

@@ -6,7 +6,7 @@ use mir.Syntax.{w32}
 use mir.Facts.{toZ-ofZ}
 use borrow.Author.Needs.{needs}
 use Rattle.sample_row.specs.inner.Moves.{moved}
-use Rattle.sample_row.proofs.Arms.{take-map, between-map}
+use Rattle.sample_row.proofs.Arms.{choice-take-map, between-map}
 use Rattle.sample_row.proofs.moved_values.Statement.{statement}
 use Rattle.sample_row.proofs.moved_values.Tie as tie
 
@@ -14,7 +14,7 @@ returns : tie.Need-returns
 returns c =
     let g = c .enum-told .given in
     let a = c .before .before .args in
-    take-map (a .choice) (g .0 .0) (g .1) (a .values)
+    choice-take-map (a .choice) (g .0 .0) (g .1) (a .values)
 
 returns-2 : tie.Need-returns-2
 returns-2 c =

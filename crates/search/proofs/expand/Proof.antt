@@ -6,7 +6,7 @@ use denote.Ref.{now}
 use borrow.Author.Needs.{needs}
 use Rattle.cells.specs.inner.Columns.{columnsOf}
 use Rattle.cells.specs.inner.Entries.{entriesOf, distanceOf}
-use Rattle.cells.proofs.Entering.{room}
+use Rattle.cells.proofs.Entering.{filled-room}
 use Rattle.search_table.specs.inner.Table.{wordsAt}
 use Rattle.search_visit.specs.inner.Fan.{FanFits}
 use Rattle.search_visit.proofs.Fanning.{fan-answer, next-ready, next-answer}
@@ -40,12 +40,12 @@ fine c = subst (FanFits (start c .args .w) (start c .args .op)) (sym (same c)) (
 words-at-requires : tie.Need-words-at-requires
 words-at-requires c κs =
     let p = c .before .pre in
-    omega (arith, room _ (p .0 .filled), p .0 .filled .index .within, p .1 .0)
+    omega (arith, filled-room _ (p .0 .filled), p .0 .filled .index .within, p .1 .0)
 
 get-requires : tie.Need-get-requires
 get-requires c κs =
     let p = c .before .before .before .pre in
-    (omega (arith, room _ (p .0 .filled), p .0 .filled .index .within, p .1 .0), omega arith)
+    (omega (arith, filled-room _ (p .0 .filled), p .0 .filled .index .within, p .1 .0), omega arith)
 
 fan-requires : tie.Need-fan-requires
 fan-requires c κs =

@@ -11,12 +11,12 @@ use Rattle.configuration.specs.inner.Graph.{opAt}
 use Rattle.cells.specs.inner.Columns.{marksField, columnsOf}
 use Rattle.cells.specs.inner.Entries.{entriesOf}
 use Rattle.cells.proofs.Fields.{column-long}
-use Rattle.cells.proofs.Entering.{room}
+use Rattle.cells.proofs.Entering.{filled-room}
 use Rattle.search_table.specs.inner.Table.{wordsAt}
 use Rattle.search.specs.inner.Search.{Subject, Exploring, SearchedIs}
 use Rattle.search_visit.specs.inner.Fan.{LeadsTo}
 use Rattle.search_visit.proofs.Fanning.{grown-to, grown-full}
-use Rattle.search.proofs.Exploring.{either, picked, entry-fine, entry-near, explored, explored-full, finished}
+use Rattle.search.proofs.Exploring.{either, picked, entry-fine, entry-near, explored, explored-full, search-finished}
 use Rattle.search.proofs.walk.Statement.{statement}
 use Rattle.search.proofs.walk.Tie as tie
 
@@ -56,7 +56,7 @@ word-requires : tie.Need-word-requires Inv-loop μ-loop
 word-requires c κs =
     let at = c .before .before in
     let x = at .loop .inv .0 (at .before .pre .0) (at .before .pre .1) in
-    (omega (arith, room _ (x .ready .filled), x .ready .filled .index .within, c .before .loop-test .taken), omega arith)
+    (omega (arith, filled-room _ (x .ready .filled), x .ready .filled .index .within, c .before .loop-test .taken), omega arith)
 
 expand-requires : tie.Need-expand-requires Inv-loop μ-loop
 expand-requires c κs =
@@ -103,7 +103,7 @@ loop-again c =
 
 returns-2 : tie.Need-returns-2 Inv-loop μ-loop
 unfolding SearchedIs
-returns-2 c = λ s begun. finished (s .fit) (c .before .loop .inv .0 s begun) (c .loop-test .left)
+returns-2 c = λ s begun. search-finished (s .fit) (c .before .loop .inv .0 s begun) (c .loop-test .left)
 
 pub walk-spec : {M : Type 1} → statement M
 walk-spec =

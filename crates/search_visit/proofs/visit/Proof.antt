@@ -4,7 +4,7 @@ use denote.Ref.{now}
 use borrow.Author.Needs.{needs}
 use Rattle.cells.specs.inner.Columns.{marksField}
 use Rattle.cells.proofs.Fields.{length-column}
-use Rattle.cells.proofs.Entering.{room}
+use Rattle.cells.proofs.Entering.{filled-room}
 use Rattle.cells.proofs.Marking.{fresh-none, fresh-one}
 use Rattle.search_visit.specs.inner.Visit.{VisitedIs, grownOf}
 use Rattle.search_visit.specs.inner.Fan.{FreshIs}
@@ -38,7 +38,7 @@ returns-3 c =
     let start = found .before .before in
     let more = added .add .ensures in (
       visit-new (start .pre .0) _ (found .find .ensures) (told .enum-told .given .1) (omega (arith, other .if1 .left)) (more .0) (more .1 .0),
-      fresh-one _ _ _ (more .1 .1) (omega (arith, room _ (start .pre .0), length-column marksField (now (start .args .cells)), other .if1 .left)),
+      fresh-one _ _ _ (more .1 .1) (omega (arith, filled-room _ (start .pre .0), length-column marksField (now (start .args .cells)), other .if1 .left)),
     )
 
 pub visit-spec : {M : Type 1} → statement M

@@ -6,7 +6,7 @@ use native.Mathlib.Omega.{arith}
 use denote.Ref.{now}
 use lib.ListN.{length, length-set}
 use Rattle.text.specs.inner.Divided.{kept}
-use Rattle.text.proofs.Dividing.{Passed, none-passed, EndStored, room, no-room, one-passed, all-passed}
+use Rattle.text.proofs.Dividing.{Passed, none-passed, EndStored, end-room, no-room, one-passed, all-passed}
 use Rattle.text.proofs.divide.Statement.{statement}
 use Rattle.text.proofs.divide.Tie as tie
 
@@ -27,7 +27,7 @@ stored c =
     let l = c .before .before .loop in
     let comma = c .before .end-of .result in
     ⊎-elim
-    (λ w. rw (w .1) (simp length-set (l .inv .0), room (l .ends) (l .count) comma (l .inv .0) (omega arith)))
+    (λ w. rw (w .1) (simp length-set (l .inv .0), end-room (l .ends) (l .count) comma (l .inv .0) (omega arith)))
     (λ w. rw (w .1) (l .inv .0, no-room (l .ends) (l .count) comma (omega arith)))
     (c .if1 .came)
 

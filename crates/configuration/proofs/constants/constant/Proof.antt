@@ -7,10 +7,9 @@ use mir.Syntax.{w32}
 use mir.Facts.{toZ-ofZ}
 use lib.ListN.{length, getD}
 use Rattle.flow.specs.Words.{sorts, mayMinus}
-use Rattle.flow.specs.Code.{numbersIn}
 use Rattle.flow.specs.declared.Sort.the-variants.{Target}
 use Rattle.flow.proofs.RowLaws.{width-bound}
-use Rattle.flow.specs.inner.Rows.{instructionOf}
+use Rattle.flow.specs.inner.Rows.{instructionOf, numbersIn}
 use Rattle.configuration.specs.inner.Prepare.{constantIn}
 use Rattle.configuration.proofs.Prepared as laws
 use Rattle.configuration.proofs.constants.constant.Statement.{statement}

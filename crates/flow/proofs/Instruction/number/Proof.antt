@@ -6,9 +6,9 @@ use mir.Syntax.{w32}
 use mir.Val.{SFits}
 use mir.Facts.{toZ-ofZ}
 use Rattle.flow.specs.Words.{at}
-use Rattle.flow.specs.Code.{numbersIn}
 use Rattle.flow.proofs.Instruction.number.Statement.{statement}
 use Rattle.flow.proofs.Instruction.number.Tie as tie
+use Rattle.flow.specs.inner.Rows.{numbersIn}
 
 returns : tie.Need-returns
 returns c =

@@ -82,14 +82,14 @@ module _ (c : tie.After-line Inv-loop μ-loop Inv-lines μ-lines) where
   abbrev Stops : Type 0
   Stops = (count ≤ 64) × (drop count rows ≡ replicate (64 - count) (rowOf stop))
 
-  refused : (r : Refusal) → laws.stepped head count fs ≡ fault r → (fault r ≡ answer) × Stops
+  refused : (r : Refusal) → laws.line-stepped head count fs ≡ fault r → (fault r ≡ answer) × Stops
   refused r e =
       let inv = turn .lines .inv in (
         laws.lines-fault text at head rows count (inv .4) (began .pre .1) (c .before .before .if1 .left) end (c .before .end-of .ensures .0) r e,
         (inv .1, inv .3),
       )
 
-  more : (row : Row) (stored : List Row) → stored ≡ set rows count row → count < 64 → laws.stepped head count fs ≡ ok row →
+  more : (row : Row) (stored : List Row) → stored ≡ set rows count row → count < 64 → laws.line-stepped head count fs ≡ ok row →
       laws.prepended (take (count + 1) stored) (keptRows (readLines head (count + 1 + 1) (lines (drop (end + 1) text)))) ≡ answer
   more row stored is few e =
       let inv = turn .lines .inv in
@@ -151,12 +151,12 @@ module _ (c : tie.After-end Inv-loop μ-loop Inv-lines μ-lines) where
   abbrev row : Row
   row = rowBy (start its-start .kind) (nums past)
 
-  stepped : endedIn (c .end .result) ≡ laws.stepped (head its-line) (count its-line) (fs its-line)
+  stepped : endedIn (c .end .result) ≡ laws.line-stepped (head its-line) (count its-line) (fs its-line)
   stepped =
       let w : k past ≡ length (cs its-start) = omega (arith, past .before .width .ensures) in
       let (zs, read, is) = laws.numbers-end (cs its-start) (fs its-line) (nums past) (k past) (past .loop .inv .3) (omega arith) in
       c .end .ensures
-      ∙ laws.steps-end (head its-line) (count its-line) (fs its-line) (start its-start) (started its-start) zs read (nums past)
+      ∙ laws.line-steps-end (head its-line) (count its-line) (fs its-line) (start its-start) (started its-start) zs read (nums past)
       (is ∙ ap (λ (n : ℕ). take n (nums past)) w) (subst (λ (n : ℕ). drop n (nums past) ≡ replicate (4 - n) (pos 0)) w (past .loop .inv .2))
 
 -- where the row to store has passed

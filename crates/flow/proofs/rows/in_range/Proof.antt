@@ -36,7 +36,7 @@ within c = let w = c .before .before .width .ensures in (omega (arith, w, laws.w
 
 -- the test of field k
 tested : (c : tie.After-fits2 Inv-loop μ-loop) → let l = turn c .before in let a = began l .args in
-    c .fits2 .result ≡ laws.holds (inRange (a .head)) (sorts (a .kind)) (a .t2) (l .loop .k)
+    c .fits2 .result ≡ laws.row-holds (inRange (a .head)) (sorts (a .kind)) (a .t2) (l .loop .k)
 tested c =
     let l = turn c .before in
     let a = began l .args in

@@ -36,7 +36,7 @@ within c = let w = c .before .before .width .ensures in (omega (arith, w, laws.w
 
 -- the test of field k
 tested : (c : tie.After-names Inv-loop μ-loop) → let l = turn c .before in let a = began l .args in
-    c .names .result ≡ laws.holds (isNamed (a .count)) (sorts (a .kind)) (a .t2) (l .loop .k)
+    c .names .result ≡ laws.row-holds (isNamed (a .count)) (sorts (a .kind)) (a .t2) (l .loop .k)
 tested c =
     let l = turn c .before in
     let a = began l .args in

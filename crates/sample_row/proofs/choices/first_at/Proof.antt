@@ -11,7 +11,7 @@ use mir.Facts.{toZ-ofZ}
 use borrow.Author.Needs.{needs, sfits-of}
 use Rattle.model.specs.Pattern.{equal}
 use Rattle.sample_row.specs.inner.Choices.{firstAt}
-use Rattle.sample_row.proofs.Folds.{first-found, first-past, first-end}
+use Rattle.sample_row.proofs.Folds.{first-at-found, first-past, first-end}
 use Rattle.sample_row.proofs.choices.first_at.Statement.{statement}
 use Rattle.sample_row.proofs.choices.first_at.Tie as tie
 
@@ -33,7 +33,7 @@ returns c =
     let e : equal x y ≡ true
     = ap (λ (q : ℤ). equal q y) (sym (toZ-ofZ {w = w32} {z = x} (sfits-of (c .before .before .x .given)))) ∙ sym (c .before .same .ensures)
     ∙ c .if1 .taken in
-    first-found y (b .args .t2) (l .i) (omega arith) e ∙ l .inv .2 ∙ rw (toZ-ofZ (b .fits .y))
+    first-at-found y (b .args .t2) (l .i) (omega arith) e ∙ l .inv .2 ∙ rw (toZ-ofZ (b .fits .y))
 
 loop-again : tie.Need-loop-again Inv-loop μ-loop
 loop-again c =
