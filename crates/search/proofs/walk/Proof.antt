@@ -38,6 +38,13 @@ joined c = c .before .before
 abbrev turn : tie.Joined1 Inv-loop μ-loop → tie.In-loop Inv-loop μ-loop
 turn c = c .before .before .before .before .before
 
+-- the search, as a turn finds it
+exploring : (c : tie.In-loop Inv-loop μ-loop) → let at = c .before in
+    let b = at .before in
+    let s = b .pre .0 in
+    Exploring (s .lo) (b .args .w) (s .flow) (columnsOf (at .loop .cells)) (at .loop .n) (b .args .size) (at .loop .k)
+exploring c = let at = c .before in at .loop .inv .0 (at .before .pre .0) (at .before .pre .1)
+
 -- the instruction is that of the entry, whatever flow it is prepared from
 pick : (c : tie.Joined1 Inv-loop μ-loop) → let at = turn c .before in (s : Subject (at .before .args .w) (at .before .args .t3))
     → c .if1 .op ≡ opAt (s .lo) (s .flow) (wordsAt (entriesOf (columnsOf (at .loop .cells))) (at .loop .k))
@@ -54,16 +61,14 @@ loop-holds c = (λ s x. x, refl)
 
 word-requires : tie.Need-word-requires Inv-loop μ-loop
 word-requires c κs =
-    let at = c .before .before in
-    let x = at .loop .inv .0 (at .before .pre .0) (at .before .pre .1) in
+    let x = exploring (c .before) in
     (omega (arith, filled-room _ (x .ready .filled), x .ready .filled .index .within, c .before .loop-test .taken), omega arith)
 
 expand-requires : tie.Need-expand-requires Inv-loop μ-loop
 expand-requires c κs =
     let in-turn = turn (c .before) in
-    let at = in-turn .before in
-    let s = at .before .pre .0 in
-    let x = at .loop .inv .0 s (at .before .pre .1) in
+    let s = in-turn .before .before .pre .0 in
+    let x = exploring in-turn in
     let l = in-turn .loop-test .taken in
     (x .ready, (l, (entry-fine (s .fit) x l (pick (c .before) s), entry-near (s .fit) x l)))
 
@@ -79,15 +84,13 @@ returns c =
 add-k : tie.Need-add-k Inv-loop μ-loop
 add-k c =
     let in-turn = turn (joined (expanded (c .before))) in
-    let at = in-turn .before in
-    let x = at .loop .inv .0 (at .before .pre .0) (at .before .pre .1) in
+    let x = exploring in-turn in
     record { fits = omega (arith, x .ready .filled .index .within, x .ready .filled .index .few, in-turn .loop-test .taken) }
 
 loop-less : tie.Need-loop-less Inv-loop μ-loop
 loop-less c =
     let in-turn = turn (joined (expanded (c .before))) in
-    let at = in-turn .before in
-    let x = at .loop .inv .0 (at .before .pre .0) (at .before .pre .1) in
+    let x = exploring in-turn in
     omega (arith, x .ready .filled .index .within, in-turn .loop-test .taken)
 
 loop-again : tie.Need-loop-again Inv-loop μ-loop
