@@ -10,7 +10,7 @@ ghost use Rattle.model.specs.Language.{stop, fields};
 ghost use Rattle.flow.specs.Words.{built, number, count as counted, at};
 ghost use Rattle.flow.specs.Code.{row, rowOf};
 ghost use Rattle.flow.specs.Read.{bounds as boundsOf, targets as targetsOf, between, all, inRange, isNamed};
-ghost use Rattle.flow.specs.inner.Reader.{maxNumbers, bounded, rangeIn, rangesIn, fitsIn, field};
+ghost use Rattle.flow.specs.inner.Reader.{maxNumbers, bounded, rangeIn, field};
 ghost use Rattle.flow.specs.inner.Rows.{numbersIn};
 use crate::Flow;
 use crate::Head;
@@ -171,51 +171,40 @@ fn targets(sort: Sort, count: u8) -> Range
     }
 }
 
-// The ranges that are looked at: those of numbers other than N, P, M, by the counts of line 1, or those of N, P, M, by the count of instructions.
-pub enum Ranges {
-    ByHead(Head),
-    ByCount(u8),
-}
-
-// The range of a number of a sort.
-fn range_by(sort: Sort, ranges: Ranges) -> Range
-    ensures { λ r. ⌜ rangeIn r ≡ rangesIn ranges sort ⌝ }
+// Whether a number other than N, P, M lies in its range.
+fn fits(sort: Sort, n: i32, head: Head) -> bool
+    ensures { λ r. ⌜ r ≡ inRange head (field sort n) ⌝ }
 {
-    match ranges {
-        Ranges::ByHead(head) => bounds(sort, head),
-        Ranges::ByCount(count) => targets(sort, count),
-    }
+    lies(held(sort, n), bounds(sort, head))
 }
 
-// Whether a number lies in its range.
-fn fits(sort: Sort, n: i32, ranges: Ranges) -> bool
-    ensures { λ r. ⌜ r ≡ fitsIn ranges (field sort n) ⌝ }
-{
-    lies(held(sort, n), range_by(sort, ranges))
-}
-
-// Whether the numbers of an instruction lie in their ranges.
-fn all_fit(kind: Kind, numbers: [i32; Instruction::MAX_NUMBERS], ranges: Ranges) -> bool
-    ensures { λ r. ⌜ r ≡ all (fitsIn ranges) (fields (built kind numbers)) ⌝ }
+// Whether the numbers of an instruction other than N, P, M lie in their ranges.
+pub fn in_range(kind: Kind, numbers: [i32; Instruction::MAX_NUMBERS], head: Head) -> bool
+    ensures { λ r. ⌜ r ≡ all (inRange head) (fields (built kind numbers)) ⌝ }
 {
     for k in 0..words::width(kind) {
-        if !fits(words::sort_at(kind, k), numbers[k], ranges) {
+        if !fits(words::sort_at(kind, k), numbers[k], head) {
             return false;
         }
     }
     true
 }
 
-// Whether the numbers other than N, P, M lie in their ranges.
-pub fn in_range(kind: Kind, numbers: [i32; Instruction::MAX_NUMBERS], head: Head) -> bool
-    ensures { λ r. ⌜ r ≡ all (inRange head) (fields (built kind numbers)) ⌝ }
+// Whether N, P or M names one of so many instructions.
+fn names(sort: Sort, n: i32, count: u8) -> bool
+    ensures { λ r. ⌜ r ≡ isNamed count (field sort n) ⌝ }
 {
-    all_fit(kind, numbers, Ranges::ByHead(head))
+    lies(held(sort, n), targets(sort, count))
 }
 
-// Whether N, P and M name one of so many instructions.
+// Whether N, P and M of an instruction name one of so many instructions.
 pub fn is_named(kind: Kind, numbers: [i32; Instruction::MAX_NUMBERS], count: u8) -> bool
     ensures { λ r. ⌜ r ≡ all (isNamed count) (fields (built kind numbers)) ⌝ }
 {
-    all_fit(kind, numbers, Ranges::ByCount(count))
+    for k in 0..words::width(kind) {
+        if !names(words::sort_at(kind, k), numbers[k], count) {
+            return false;
+        }
+    }
+    true
 }

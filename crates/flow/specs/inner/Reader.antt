@@ -1,6 +1,6 @@
 -- What the reader keeps and answers, part by part. The number of a line and the counts of line 1 are kept in a byte, the numbers of a row up to
 -- 100,000: a larger one is given as one that is past every range too, so that it changes no answer (proofs/ClampLaws.antt).
-use mathlib.Core.Bool.{Bool, cond}
+use mathlib.Core.Bool.{cond}
 use mathlib.Core.List.{List, [], _∷_, _++_, map}
 use mathlib.Core.Option.{Option, none, some}
 use Prim.Native.Nat.{ℕ, suc, min, _-_, _≤_}
@@ -10,11 +10,11 @@ use lib.Dec.{eqb}
 use lib.ListN.{length, take, replicate}
 use Rattle.model.specs.Language.{Instruction, Field, tape, output, variable, target, constant}
 use Rattle.flow.specs.Limits.{maxTapes, maxOutputs, maxVariables}
-use Rattle.flow.specs.Read.{Checked, ok, fault, bounds, targets, between, lostTarget}
+use Rattle.flow.specs.Read.{Checked, ok, fault, lostTarget}
 use Rattle.flow.specs.declared.Kind.{Kind}
 use Rattle.flow.specs.declared.Sort.{Sort}
 use Rattle.flow.specs.declared.Sort.the-variants.{Target, Tape, Output, Variable, Constant}
-use Rattle.flow.specs.Words.{count, sort, number}
+use Rattle.flow.specs.Words.{count}
 use Rattle.flow.specs.Code.{kind, numbers, row, readingOf}
 use Rattle.flow.specs.declared.Head.{Head}
 use Rattle.flow.specs.declared.Instruction.{Instruction as Row}
@@ -28,8 +28,6 @@ use Rattle.flow.specs.declared.lines.Targets.{Targets}
 use Rattle.flow.specs.declared.lines.Targets.the-variants.{Named, Lost}
 use Rattle.flow.specs.declared.lines.Lines.{Lines}
 use Rattle.flow.specs.declared.rows.Range.{Range}
-use Rattle.flow.specs.declared.rows.Ranges.{Ranges}
-use Rattle.flow.specs.declared.rows.Ranges.the-variants.{ByHead, ByCount}
 use Rattle.flow.specs.declared.rows.Range.the-variants.{Any, Within}
 use Rattle.flow.specs.declared.words.Word.{Word}
 use Rattle.flow.specs.declared.words.Word.the-variants.{Known, Unknown}
@@ -54,14 +52,6 @@ kindIn Unknown = none
 abbrev pub rangeIn : Range → Option (ℤ × ℤ)
 rangeIn Any = none
 rangeIn (Within lo hi) = some (lo, hi)
-
--- the ranges that the code looks at, and whether a field lies in its range
-abbrev pub rangesIn : Ranges → Sort → Option (ℤ × ℤ)
-rangesIn (ByHead h) = bounds h
-rangesIn (ByCount count) = targets count
-
-abbrev pub fitsIn : Ranges → Field → Bool
-fitsIn ranges f = between (rangesIn ranges (sort f)) (number f)
 
 -- the field of a sort that holds a number
 abbrev pub field : Sort → ℤ → Field

@@ -4,7 +4,7 @@ use borrow.Author.Needs.{needs}
 use mir.Syntax.{w32}
 use mir.Val.{SFits}
 use mir.Facts.{toZ-ofZ}
-use Rattle.flow.specs.inner.Reader.{rangesIn}
+use Rattle.flow.specs.Read.{bounds}
 use Rattle.flow.proofs.SortLaws.{lies-so}
 use Rattle.flow.proofs.rows.fits.Statement.{statement}
 use Rattle.flow.proofs.rows.fits.Tie as tie
@@ -15,7 +15,7 @@ returns c =
     let held = c .before .before .held in
     let f : SFits w32 (held .result) = search needs in
     let g : SFits w32 (a .n) = search needs in
-    c .lies .ensures ∙ lies-so (rangesIn (a .ranges)) (a .sort) (a .n) (c .before .range-by .ensures) (rw (toZ-ofZ f) (rw (toZ-ofZ g) at (held .ensures)))
+    c .lies .ensures ∙ lies-so (bounds (a .head)) (a .sort) (a .n) (c .before .bounds .ensures) (rw (toZ-ofZ f) (rw (toZ-ofZ g) at (held .ensures)))
 
 pub fits-spec : {M : Type 1} → statement M
 fits-spec = tie.close (tie.spec (λ c κs. search needs) (λ c κs. search needs) (λ c κs. search needs) returns)

@@ -1,4 +1,4 @@
--- `flow::rows::all_fit` meets its contract: what the fields from k on come to is what all of them come to.
+-- `flow::rows::in_range` meets its contract: what the fields from k on come to is what all of them come to.
 use mathlib.Core.Path.{_≡_, sym, ap, ap₂, _∙_}
 use Prim.Native.Nat.{_-_, _≤_, _<_}
 use native.Mathlib.Omega.{arith}
@@ -11,18 +11,18 @@ use mir.Val.{SFits}
 use mir.Facts.{toZ-ofZ}
 use Rattle.model.specs.Language.{fields}
 use Rattle.flow.specs.Words.{sorts, built, at}
-use Rattle.flow.specs.inner.Reader.{field, fitsIn}
-use Rattle.flow.specs.Read.{all}
+use Rattle.flow.specs.inner.Reader.{field}
+use Rattle.flow.specs.Read.{all, inRange}
 use Rattle.flow.specs.declared.Sort.{Sort}
 use Rattle.flow.proofs.RowLaws as laws
-use Rattle.flow.proofs.rows.all_fit.Statement.{statement}
-use Rattle.flow.proofs.rows.all_fit.Tie as tie
+use Rattle.flow.proofs.rows.in_range.Statement.{statement}
+use Rattle.flow.proofs.rows.in_range.Tie as tie
 
 abbrev Inv-loop : tie.InvT-loop
-Inv-loop kind ranges numbers k₀ k-end k = (k ≤ k-end) × (laws.tested (fitsIn ranges) (sorts kind) numbers k ≡ all (fitsIn ranges) (fields (built kind numbers)))
+Inv-loop kind head numbers k₀ k-end k = (k ≤ k-end) × (laws.tested (inRange head) (sorts kind) numbers k ≡ all (inRange head) (fields (built kind numbers)))
 
 abbrev μ-loop : tie.MeasureT-loop
-μ-loop kind ranges numbers k₀ k-end k = k-end - k
+μ-loop kind head numbers k₀ k-end k = k-end - k
 
 -- ---- the places: where the function began, and the turn that a test belongs to
 abbrev began : tie.At-loop Inv-loop μ-loop → tie.Start Inv-loop μ-loop
@@ -36,22 +36,22 @@ within c = let w = c .before .before .width .ensures in (omega (arith, w, laws.w
 
 -- the test of field k
 tested : (c : tie.After-fits2 Inv-loop μ-loop) → let l = turn c .before in let a = began l .args in
-    c .fits2 .result ≡ laws.row-holds (fitsIn (a .ranges)) (sorts (a .kind)) (a .t2) (l .loop .k)
+    c .fits2 .result ≡ laws.row-holds (inRange (a .head)) (sorts (a .kind)) (a .t2) (l .loop .k)
 tested c =
     let l = turn c .before in
     let a = began l .args in
     let f : SFits w32 (at (a .t2) (l .loop .k)) = search needs in
-    c .fits2 .ensures ∙ ap₂ (λ (s : Sort) (z : ℤ). fitsIn (a .ranges) (field s z)) (c .before .before .sort-at .ensures) (toZ-ofZ f)
+    c .fits2 .ensures ∙ ap₂ (λ (s : Sort) (z : ℤ). inRange (a .head) (field s z)) (c .before .before .sort-at .ensures) (toZ-ofZ f)
 
 loop-holds : tie.Need-loop-holds Inv-loop μ-loop
-loop-holds c = let a = c .before .args in (omega arith, sym (ap (all (fitsIn (a .ranges))) (laws.fields-built (a .t2) (a .kind))))
+loop-holds c = let a = c .before .args in (omega arith, sym (ap (all (inRange (a .head))) (laws.fields-built (a .t2) (a .kind))))
 
 returns : tie.Need-returns Inv-loop μ-loop
 returns c =
     let t = turn (c .before) in
     let l = t .before in
     let a = began l .args in
-    laws.test-fails (fitsIn (a .ranges)) (sorts (a .kind)) (a .t2) (l .loop .k) (within t .1) (sym (tested (c .before)) ∙ not-true _ (c .if1 .taken)) ∙ l .loop .inv .1
+    laws.test-fails (inRange (a .head)) (sorts (a .kind)) (a .t2) (l .loop .k) (within t .1) (sym (tested (c .before)) ∙ not-true _ (c .if1 .taken)) ∙ l .loop .inv .1
 
 loop-again : tie.Need-loop-again Inv-loop μ-loop
 loop-again c =
@@ -59,17 +59,17 @@ loop-again c =
     let l = t .before in
     let a = began l .args in (
       omega (arith, t .loop-test .taken),
-      laws.test-holds (fitsIn (a .ranges)) (sorts (a .kind)) (a .t2) (l .loop .k) (within t .1) (sym (tested (c .before)) ∙ not-false _ (c .if1 .left)) ∙ l .loop .inv .1,
+      laws.test-holds (inRange (a .head)) (sorts (a .kind)) (a .t2) (l .loop .k) (within t .1) (sym (tested (c .before)) ∙ not-false _ (c .if1 .left)) ∙ l .loop .inv .1,
     )
 
 returns-2 : tie.Need-returns-2 Inv-loop μ-loop
 returns-2 c =
     let l = c .before in
     let a = began l .args in
-    laws.tests-end (fitsIn (a .ranges)) (sorts (a .kind)) (a .t2) (l .loop .k) (omega (arith, l .before .width .ensures, c .loop-test .left)) ∙ l .loop .inv .1
+    laws.tests-end (inRange (a .head)) (sorts (a .kind)) (a .t2) (l .loop .k) (omega (arith, l .before .width .ensures, c .loop-test .left)) ∙ l .loop .inv .1
 
-pub all-fit-spec : {M : Type 1} → statement M
-all-fit-spec =
+pub in-range-spec : {M : Type 1} → statement M
+in-range-spec =
     tie.close
     (tie.spec
     Inv-loop
