@@ -118,11 +118,11 @@ def cases():
     too_long = FLOW_A + b"x" * (4096 - len(FLOW_A)) + b"\n"
     yield "flow A", whole(FLOW_A), REPORT_A, b""
     yield "no bytes", whole(b""), b"refused,2,0\n", b""
-    yield "4,096 bytes", whole(longest), b"refused,4,5\n", b""
+    yield "4,096 bytes", whole(longest), b"refused,13,5\n", b""
     yield "4,097 bytes", whole(too_long), b"refused,1,0\n", b""
     yield "flow A in two halves", pieces(FLOW_A[:20], FLOW_A[20:]), REPORT_A, b""
     yield "flow A byte by byte", pieces(*(bytes([b]) for b in FLOW_A)), REPORT_A, b""
-    yield "4,096 bytes in two halves", pieces(longest[:2048], longest[2048:]), b"refused,4,5\n", b""
+    yield "4,096 bytes in two halves", pieces(longest[:2048], longest[2048:]), b"refused,13,5\n", b""
     yield "4,097 bytes in two halves", pieces(too_long[:2048], too_long[2048:]), b"refused,1,0\n", b""
     yield "4,097 bytes, the last one alone", pieces(too_long[:4096], too_long[4096:]), b"refused,1,0\n", b""
     directory = os.open("/", os.O_RDONLY)

@@ -1,9 +1,9 @@
 #!/usr/bin/env python3
 """Flow texts, and what each is read as, for the program `test_readings`.
 
-The reader here is written from document 01 alone ("The flow text", "Where a request is turned back") and shares nothing with
-the crates. Without an argument the files of crates/test_readings are compared with what this script makes; with --write they are
-written.
+The reader here is written from documents 01 ("The flow text", "Where a request is turned back") and 02 (T-02) alone and shares
+nothing with the crates. Without an argument the files of crates/test_readings are compared with what this script makes; with
+--write they are written.
 """
 import sys
 
@@ -38,10 +38,14 @@ def read(text):
     if text[-1] != 10:
         return refused(3, 0)
     first, *rest = text[:-1].split(b"\n")
-    word, *counts = first.split(b",")
-    counts = [number(f) for f in counts]
-    if word != b"flow" or len(counts) != 3 or None in counts:
-        return refused(4, 1)
+    word, *fields = first.split(b",")
+    if word != b"flow":
+        return refused(13, 1)
+    if len(fields) != 3:
+        return refused(14, 1)
+    counts = [number(field) for field in fields]
+    if None in counts:
+        return refused(15, 1)
     if not (1 <= counts[0] <= 3 and counts[1] <= 3 and 1 <= counts[2] <= 4):
         return refused(5, 1)
     ranges = {"A": (1, counts[0]), "Y": (1, counts[1]), "u": (1, counts[2]), "v": (1, counts[2]), "c": (-1000, 1000)}
@@ -49,13 +53,16 @@ def read(text):
     for i, line in enumerate(rest, 1):
         if i == 65:
             return refused(8, 66)
-        own, *fields = line.split(b",")
-        names = WORDS.get(fields[0]) if fields else None
-        if names is None or len(fields) != 1 + len(names):
-            return refused(4, i + 1)
-        values = [(f, number(field, f == "c")) for f, field in zip(names, fields[1:])]
+        own, *after = line.split(b",")
+        if not after or after[0] not in WORDS:
+            return refused(13, i + 1)
+        word, *fields = after
+        names = WORDS[word]
+        if len(fields) != len(names):
+            return refused(14, i + 1)
+        values = [(f, number(field, f == "c")) for f, field in zip(names, fields)]
         if None in [number(own)] + [n for _, n in values]:
-            return refused(4, i + 1)
+            return refused(15, i + 1)
         if number(own) != i:
             return refused(6, i + 1)
         if any(not ranges[f][0] <= n <= ranges[f][1] for f, n in values if f in ranges):
@@ -74,6 +81,12 @@ CASES = {}
 def case(name, text):
     assert name not in CASES, name
     CASES[name] = text if isinstance(text, bytes) else text.encode()
+
+
+def turned_back(name, refusal, text):
+    """A text of the topic `kinds`; its refusal and place are written by hand, from the words of document 02."""
+    case(f"kinds/{name}", text)
+    assert read(CASES[f"kinds/{name}"]) == f"refused,{refusal}\n".encode(), name
 
 
 def flow(*lines, head="flow,2,1,2"):
@@ -127,7 +140,7 @@ case("whole/no-end-faulty", FLOW_A[:-1] + ",,")
 case("whole/end-alone", "\n")
 case("whole/byte-alone", "f")
 
-# the lines and their count: refusal 8, and 4 for an empty line
+# the lines and their count: refusal 8, and 13 for an empty line
 case("lines/only-line-1", flow())
 case("lines/only-line-1-faulty", flow(head="flow,4,1,2"))
 case("lines/64-instructions", nops(64))
@@ -145,7 +158,7 @@ case("lines/empty-2", FLOW_A.replace("\n", "\n\n", 1))
 case("lines/empty-middle", FLOW_A.replace("\n2", "\n\n2"))
 case("lines/empty-last", FLOW_A + "\n")
 
-# bytes that have no meaning of their own: refusal 4
+# bytes that have no meaning of their own: refusal 13 in a word or alone on a line, 15 in a number, 14 where they join two lines
 case("bytes/cr-before-ends", FLOW_A.replace("\n", "\r\n"))
 case("bytes/cr-before-last-end", FLOW_A.replace("stop\n", "stop\r\n"))
 case("bytes/cr-for-end", FLOW_A.replace("\n2", "\r2"))
@@ -163,7 +176,7 @@ case("bytes/47-for-digit", FLOW_A.replace("over,5", "over,/"))
 case("bytes/58-for-digit", FLOW_A.replace("over,5", "over,:"))
 case("bytes/quotes", FLOW_A.replace("stop", '"stop"'))
 
-# words: refusal 4
+# words: refusal 13
 for word in ["stops", "sto", "STOP", "halt", "flow", ""]:
     case(f"words/{word or 'empty'}", flow("1," + word))
 for word in ["rea", "reads", "READ", "flow"]:
@@ -174,7 +187,7 @@ case("words/stop-for-number", flow("stop,1"))
 case("words/stop-without-number", flow("stop"))
 case("words/number-alone", flow("1"))
 
-# the count of fields: refusal 4
+# the count of fields: refusal 14, but 13 where the second field is then missing or no word
 for word, line in [("flow", ""), ("read", "1,read,1,1,2,2"), ("set", "1,set,1,1,2"), ("nop", "1,nop,2"), ("stop", "1,stop")]:
     def counted(change):
         return flow(change(line), "2,stop") if line else flow("1,stop", head=change("flow,1,0,1"))
@@ -183,7 +196,7 @@ for word, line in [("flow", ""), ("read", "1,read,1,1,2,2"), ("set", "1,set,1,1,
     case(f"count/{word}-field-less", counted(lambda x: x.rpartition(",")[0]))
 case("count/comma-before", flow(",1,stop"))
 
-# badly written numbers: refusal 4
+# badly written numbers: refusal 15
 for name, digits in [("minus-0", "-0"), ("00", "00"), ("01", "01"), ("minus-01", "-01"), ("minus-00", "-00"), ("plus-1", "+1"),
                      ("minus-alone", "-"), ("minus-twice", "--1"), ("minus-after", "1-"), ("letter", "1a"), ("empty", "")]:
     case(f"badly/c-{name}", fields(c=digits))
@@ -230,16 +243,116 @@ case("target/never-reached", flow("1,stop", "2,nop,3"))
 case("target/lowest-line", flow("1,nop,1", "2,less,1,1,1,4", "3,nop,0"))
 
 # the order of refusals
-case("order/4-before-6-before-5", flow("7,set,1001,1,01"))
+case("order/15-before-6-before-5", flow("7,set,1001,1,01"))
 case("order/6-before-5", flow("7,set,1001,1,1"))
 case("order/5-before-7", flow("1,set,1001,1,9"))
-case("order/4-before-5-line-1", flow("1,stop", head="flow,9,9,01"))
-case("order/line-1-with-5-line-2-with-4", flow("x", head="flow,9,1,1"))
-case("order/line-2-with-5-line-3-with-4", flow("1,set,1001,1,1", "x"))
-case("order/line-2-with-6-line-3-with-4", flow("2,stop", "x"))
-case("order/line-2-with-7-line-3-with-4", flow("1,nop,0", "2,stops"))
+case("order/15-before-5-line-1", flow("1,stop", head="flow,9,9,01"))
+case("order/line-1-with-5-line-2-with-13", flow("x", head="flow,9,1,1"))
+case("order/line-2-with-5-line-3-with-13", flow("1,set,1001,1,1", "x"))
+case("order/line-2-with-6-line-3-with-13", flow("2,stop", "x"))
+case("order/line-2-with-7-line-3-with-13", flow("1,nop,0", "2,stops"))
 case("order/line-2-with-7-line-3-with-6", flow("1,nop,0", "3,stop"))
 case("order/line-2-with-7-line-3-with-5", flow("1,nop,0", "2,set,1001,1,1"))
+
+# the three kinds of faulty line, 13, 14 and 15, with their borders to each other and to 6, 5, 8 and 7
+for name, refusal, head in [
+    ("other-word", "13,1", "flo,1,0,1"), ("other-word-capital", "13,1", "Flow,1,0,1"),
+    ("other-word-alone", "13,1", "flo"), ("other-word-out-of-range", "13,1", "flo,9,9,9"),
+    ("other-word-too-few", "13,1", "flo,1,0"), ("other-word-too-many", "13,1", "flo,1,0,1,1"),
+    ("other-word-bad-number", "13,1", "flo,01,0,1"), ("other-word-too-few-bad-number", "13,1", "flo,01,0"),
+    ("instruction-word", "13,1", "stop,1,0,1"), ("instruction", "13,1", "1,stop"),
+    ("no-word", "13,1", "1,0,1"), ("word-empty", "13,1", ",1,0,1"), ("empty", "13,1", ""),
+    ("flow-alone", "14,1", "flow"), ("flow-comma", "14,1", "flow,"),
+    ("too-few", "14,1", "flow,2,1"), ("too-many", "14,1", "flow,2,1,2,1"),
+    ("too-few-bad-number", "14,1", "flow,01,0"), ("too-many-bad-number", "14,1", "flow,1,-0,1,1"),
+    ("too-few-out-of-range", "14,1", "flow,9,0"), ("too-many-out-of-range", "14,1", "flow,9,9,9,9"),
+    ("T-bad", "15,1", "flow,01,0,1"), ("O-bad", "15,1", "flow,1,-0,1"), ("V-bad", "15,1", "flow,1,0,1a"),
+    ("V-left-empty", "15,1", "flow,1,0,"), ("all-empty", "15,1", "flow,,,"),
+    ("T-bad-V-out-of-range", "15,1", "flow,-1,0,9"), ("T-out-of-range-V-bad", "15,1", "flow,9,0,x"),
+    ("V-out-of-range", "5,1", "flow,1,0,9"),
+]:
+    turned_back(f"line-1-{name}", refusal, flow("1,stop", head=head))
+
+for name, refusal, line in [
+    # the word
+    ("empty-line", "13,3", ""), ("number-alone", "13,3", "2"), ("stop-alone", "13,3", "stop"), ("letter-alone", "13,3", "x"),
+    ("word-empty", "13,3", "2,"), ("commas-alone", "13,3", ",,"), ("word-empty-with-fields", "13,3", "2,,1,1,1"),
+    ("word-unknown", "13,3", "2,halt"), ("word-capital", "13,3", "2,Stop"), ("word-flow", "13,3", "2,flow,1,0,1"),
+    ("line-1-again", "13,3", "flow,2,1,2"), ("word-first", "13,3", "nop,1"), ("word-third", "13,3", "2,1,stop"),
+    ("word-unknown-one-after", "13,3", "2,halt,1"), ("word-unknown-six-after", "13,3", "2,halt,1,1,1,1,1,1"),
+    ("word-unknown-bad-fields", "13,3", "2,halt,01,-0,x,"), ("word-unknown-own-empty", "13,3", ",halt"),
+    # the count of fields; `stop` with one too few has no word
+    ("read-too-few", "14,3", "2,read,1,1,1"), ("read-too-many", "14,3", "2,read,1,1,1,1,1"),
+    ("put-too-few", "14,3", "2,put,1,1"), ("put-too-many", "14,3", "2,put,1,1,1,1"),
+    ("copy-too-few", "14,3", "2,copy,1,1"), ("copy-too-many", "14,3", "2,copy,1,1,1,1"),
+    ("set-too-few", "14,3", "2,set,1,1"), ("set-too-many", "14,3", "2,set,1,1,1,1"),
+    ("less-too-few", "14,3", "2,less,1,1,1"), ("less-too-many", "14,3", "2,less,1,1,1,1,1"),
+    ("over-too-few", "14,3", "2,over,1,1,1"), ("over-too-many", "14,3", "2,over,1,1,1,1,1"),
+    ("under-too-few", "14,3", "2,under,1,1,1"), ("under-too-many", "14,3", "2,under,1,1,1,1,1"),
+    ("nop-too-few", "14,3", "2,nop"), ("nop-too-many", "14,3", "2,nop,1,1"), ("stop-too-many", "14,3", "2,stop,1"),
+    ("read-too-few-bad-tape", "14,3", "2,read,01,1,1"), ("copy-too-many-bad-first", "14,3", "2,copy,-1,1,1,1"),
+    ("set-too-many-minus-0", "14,3", "2,set,-0,1,1,1"), ("over-too-few-all-bad", "14,3", "x,over,x,x,x"),
+    ("nop-comma-after", "14,3", "2,nop,1,"), ("nop-two-empty", "14,3", "2,nop,,"), ("nop-too-few-own-empty", "14,3", ",nop"),
+    ("stop-comma-after", "14,3", "2,stop,"), ("stop-too-many-bad-own", "14,3", "02,stop,1"),
+    # each number of each word
+    ("own-leading-zero", "15,3", "02,stop"), ("own-minus", "15,3", "-2,stop"),
+    ("own-empty", "15,3", ",stop"), ("own-word", "15,3", "stop,stop"),
+    ("read-A", "15,3", "2,read,01,1,1,1"), ("read-v", "15,3", "2,read,1,,1,1"),
+    ("read-P", "15,3", "2,read,1,1,-1,1"), ("read-M", "15,3", "2,read,1,1,1,"),
+    ("put-v", "15,3", "2,put,-1,1,1"), ("put-Y", "15,3", "2,put,1,-0,1"), ("put-N", "15,3", "2,put,1,1,"),
+    ("copy-u", "15,3", "2,copy,01,1,1"), ("copy-v", "15,3", "2,copy,1,-1,1"), ("copy-N", "15,3", "2,copy,1,1,00"),
+    ("set-c", "15,3", "2,set,-0,1,1"), ("set-v", "15,3", "2,set,1,-1,1"), ("set-N", "15,3", "2,set,1,1,x"),
+    ("less-u", "15,3", "2,less,-1,1,1,1"), ("less-v", "15,3", "2,less,1,01,1,1"),
+    ("less-P", "15,3", "2,less,1,1,,1"), ("less-M", "15,3", "2,less,1,1,1,-0"),
+    ("over-c", "15,3", "2,over,-01,1,1,1"), ("over-v", "15,3", "2,over,1,-1,1,1"),
+    ("over-P", "15,3", "2,over,1,1,01,1"), ("over-M", "15,3", "2,over,1,1,1,+1"),
+    ("under-v", "15,3", "2,under,-1,1,1,1"), ("under-c", "15,3", "2,under,1,-0,1,1"),
+    ("under-P", "15,3", "2,under,1,1,-1,1"), ("under-M", "15,3", "2,under,1,1,1,"),
+    ("nop-N", "15,3", "2,nop,-1"), ("nop-N-empty", "15,3", "2,nop,"),
+    # each of the three where the own number, turn, range or target is at fault as well, and that fault alone
+    ("word-before-own", "13,3", "02,halt"), ("count-before-own", "14,3", "02,nop"), ("own-before-turn", "15,3", "09,nop,1"),
+    ("word-before-turn", "13,3", "9,halt"), ("count-before-turn", "14,3", "9,nop"),
+    ("number-before-turn", "15,3", "9,nop,01"), ("turn", "6,3", "9,nop,1"),
+    ("word-before-range", "13,3", "2,sets,1001,1,1"), ("count-before-range", "14,3", "2,set,1001,1"),
+    ("number-before-range", "15,3", "2,set,1001,1,01"), ("number-left-of-range", "15,3", "2,set,01,9,1"),
+    ("range", "5,3", "2,set,1001,1,1"),
+    ("word-before-target", "13,3", "2,nops,9"), ("count-before-target", "14,3", "2,nop,9,9"),
+    ("number-before-target", "15,3", "2,nop,09"), ("target", "7,3", "2,nop,9"),
+]:
+    turned_back(name, refusal, flow("1,nop,1", line))
+
+# two lines at fault: the first one counts, but a target only after all lines
+FAULTS = {"word": "{},halt", "count": "{},nop", "number": "{},nop,01", "turn": "9,nop,1", "range": "{},set,1001,1,1", "target": "{},nop,9"}
+for name, refusal in [
+    ("word-then-count", "13,2"), ("word-then-number", "13,2"),
+    ("word-then-turn", "13,2"), ("word-then-range", "13,2"), ("word-then-target", "13,2"),
+    ("count-then-word", "14,2"), ("count-then-number", "14,2"),
+    ("count-then-turn", "14,2"), ("count-then-range", "14,2"), ("count-then-target", "14,2"),
+    ("number-then-word", "15,2"), ("number-then-count", "15,2"),
+    ("number-then-turn", "15,2"), ("number-then-range", "15,2"), ("number-then-target", "15,2"),
+    ("turn-then-word", "6,2"), ("turn-then-count", "6,2"), ("turn-then-number", "6,2"),
+    ("range-then-word", "5,2"), ("range-then-count", "5,2"), ("range-then-number", "5,2"),
+    ("target-then-word", "13,3"), ("target-then-count", "14,3"), ("target-then-number", "15,3"),
+]:
+    first, second = name.split("-then-")
+    turned_back(name, refusal, flow(FAULTS[first].format(1), FAULTS[second].format(2)))
+turned_back("line-1-word-then-number", "13,1", flow("1,nop,01", head="flo,1,0,1"))
+turned_back("line-1-count-then-word", "14,1", flow("1,halt", head="flow,1,0"))
+turned_back("line-1-number-then-word", "15,1", flow("1,halt", head="flow,1,0,x"))
+turned_back("line-1-number-then-count", "15,1", flow("1,nop", head="flow,1,0,x"))
+turned_back("line-1-range-then-count", "5,1", flow("1,nop", head="flow,9,0,1"))
+turned_back("line-1-range-then-number", "5,1", flow("1,nop,01", head="flow,9,0,1"))
+
+# the count of lines
+turned_back("only-line-1-word", "13,1", flow(head="flo,1,0,1"))
+turned_back("only-line-1-count", "14,1", flow(head="flow,1,0"))
+turned_back("only-line-1-number", "15,1", flow(head="flow,1,0,x"))
+turned_back("line-65-word-and-66", "13,65", nops(64, "{},halt") + "65,stop\n")
+turned_back("line-65-count-and-66", "14,65", nops(64, "{},nop") + "65,stop\n")
+turned_back("line-65-number-and-66", "15,65", nops(64, "{},nop,01") + "65,stop\n")
+turned_back("line-66-word", "8,66", nops(65, "{},halt"))
+turned_back("line-66-count", "8,66", nops(65, "{},nop"))
+turned_back("line-66-number", "8,66", nops(65, "{},nop,01"))
 
 
 # ---- the files of crates/test_readings

@@ -156,9 +156,9 @@ case("shapes", "every-word", flow("2,1,2", "read,2,1,+,end", "put,1,1,+", "copy,
      "under,2,5,+,end", "nop,1", "end: stop"))
 
 # the texts that are turned back
-for name, text in [("no-bytes", ""), ("word", "flow,1,0,1\n1,halt\n"), ("turn", "flow,1,0,1\n2,stop\n"),
-                   ("range", "flow,1,0,1\n1,set,1001,1,1\n"), ("target", "flow,1,0,1\n1,nop,2\n"), ("only-line-1", "flow,1,0,1\n"),
-                   ("tapes", "flow,4,0,1\n1,stop\n")]:
+for name, text in [("no-bytes", ""), ("word", "flow,1,0,1\n1,halt\n"), ("count", "flow,1,0,1\n1,nop\n"),
+                   ("number", "flow,1,0,1\n1,nop,01\n"), ("turn", "flow,1,0,1\n2,stop\n"), ("range", "flow,1,0,1\n1,set,1001,1,1\n"),
+                   ("target", "flow,1,0,1\n1,nop,2\n"), ("only-line-1", "flow,1,0,1\n"), ("tapes", "flow,4,0,1\n1,stop\n")]:
     case("turned-back", name, text)
 
 

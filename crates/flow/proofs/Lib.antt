@@ -1,3 +1,4 @@
+pub mod FaultyLines
 pub mod Tests
 pub mod RowLaws
 pub mod SortLaws
@@ -9,6 +10,7 @@ pub mod FlowLaws
 pub mod LegalLaws
 pub mod WriteLineLaws
 pub mod LineLaws
+pub mod Numbers
 pub mod Places
 pub mod WriteSizeLaws
 pub mod WriteLaws

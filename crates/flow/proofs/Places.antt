@@ -1,21 +1,21 @@
--- The place of a refused text fits a byte, and so does every refusal's number. A refusal of a line names that line, and only the lines of
--- instructions 1 to 64 are looked at; a target that names no instruction stands on one of them; line 66 is one too many. So no place is
--- past 66. Each part of the reading is a chain of checks, and `search` goes along it by one law for each kind of check.
+-- The place of a refused text fits a byte. A refusal of a line names that line, and only the lines of instructions 1 to 64 are looked at; a
+-- target that names no instruction stands on one of them; line 66 is one too many. So no place is past 66. Each part of the reading is a
+-- chain of checks, and `search` goes along it by one law for each kind of check.
 use mathlib.Core.Path.{_≡_, refl, subst}
 use mathlib.Core.Bool.{Bool, true, false, cond}
 use mathlib.Core.List.{List, [], _∷_}
 use mathlib.Core.Option.{Option, none, some}
-use Prim.Native.Nat.{ℕ, suc, _+_, _≤_, _<_}
+use Prim.Native.Nat.{ℕ, suc, _+_, _≤_}
 use native.Mathlib.Omega.{arith}
 use borrow.Author.Tests.{leb-true}
 use lib.ListN.{length}
 use Rattle.model.specs.Language.{Instruction, fields}
 use Rattle.flow.specs.Limits.{maxInstructions}
 use Rattle.flow.specs.Read.{Checked, ok, fault, check, given, after, unless, isNamed, all, headOf, readHead, readLine, readLines, lostTarget, readRest, readFlow}
-use Rattle.flow.specs.Refusals.{numberOf, placeOf}
+use Rattle.flow.specs.Refusals.{placeOf}
 use Rattle.flow.specs.declared.Head.{Head}
 use Rattle.flow.specs.declared.Refusal.{Refusal}
-use Rattle.flow.specs.declared.Refusal.the-variants.{TooLong, NoBytes, NoLastEnd, UnknownWord, WrongCount, BadNumber, OutOfRange, OutOfTurn, NoSuchTarget, TooManyLines, NoInstruction, TooFewCells, ShortRow, NoSuchExit, WrongTapes}
+use Rattle.flow.specs.declared.Refusal.the-variants.{NoSuchTarget}
 use Rattle.flow.proofs.ReadLaws.{at-most-64}
 
 -- an answer that is no refusal, or one whose place is at most 66
@@ -72,20 +72,3 @@ pub read-place : (text : List ℕ) (why : Refusal) → readFlow text ≡ fault w
 unfolding readFlow
 read-place text why e = let near : 0 ≤ maxInstructions + 2 = omega arith in
     subst Within e (search (check-within, after-within, head-within, rest-within) depth 20)
-
-pub number-small : (why : Refusal) → numberOf why < 256
-number-small TooLong = omega arith
-number-small NoBytes = omega arith
-number-small NoLastEnd = omega arith
-number-small (UnknownWord line) = omega arith
-number-small (WrongCount line) = omega arith
-number-small (BadNumber line) = omega arith
-number-small (OutOfRange line) = omega arith
-number-small (OutOfTurn line) = omega arith
-number-small (NoSuchTarget line) = omega arith
-number-small TooManyLines = omega arith
-number-small NoInstruction = omega arith
-number-small TooFewCells = omega arith
-number-small ShortRow = omega arith
-number-small NoSuchExit = omega arith
-number-small WrongTapes = omega arith

@@ -294,6 +294,12 @@ const NUMBERS: [&str; 40] = [
 const WHOLE: [&str; 16] =
     ["0", "1", "2", "3", "4", "5", "6", "12", "64", "65", "256", "1000", "1001", "65537", "4294967297", "18446744073709551617"];
 
+/// Well written, and outside every range and turn.
+const OUTSIDE: [&str; 4] = ["1001", "65537", "4294967297", "18446744073709551617"];
+
+/// Badly written wherever it stands.
+const BAD: [&str; 10] = ["", "-0", "+1", "01", "-01", "--1", "-", "1 ", "1.0", "x"];
+
 const WORDS: [&str; 24] = [
     "read", "put", "copy", "set", "less", "over", "under", "nop", "stop", "flow", "", "Read", "READ", "rea", "reads", "read ", " nop",
     "stop\r", "stop\0", "stopp", "sto", "const", "\u{e9}", "1",
@@ -385,6 +391,75 @@ fn aimed(rng: &mut Rng) -> Vec<u8> {
     lines.join(&10u8)
 }
 
+/// What can be wrong with a line: own number out of turn, a number out of range, a number badly written, the count of fields, the word.
+enum Fault {
+    Turn,
+    Range,
+    Number,
+    Count,
+    Word,
+}
+
+/// Takes one out, if there is one.
+fn take<T>(rng: &mut Rng, from: &mut Vec<T>) -> Option<T> {
+    (!from.is_empty()).then(|| from.remove(rng.below(from.len())))
+}
+
+/// Takes one of these numbers out, and writes it in one of these ways.
+fn rewrite(rng: &mut Rng, fields: &mut [Vec<u8>], numbers: &mut Vec<usize>, ways: &[&str]) {
+    if let Some(i) = take(rng, numbers) {
+        fields[i] = rng.pick(ways).as_bytes().to_vec();
+    }
+}
+
+/// Puts these faults into the fields of a line, no two into one number; `word` is where the word stands.
+fn put_faults(rng: &mut Rng, faults: &[Fault], fields: &mut Vec<Vec<u8>>, word: usize) {
+    let mut own: Vec<usize> = (0..word).collect();
+    let mut others: Vec<usize> = (word + 1..fields.len()).collect();
+    for fault in faults {
+        match fault {
+            Fault::Turn => rewrite(rng, fields, &mut own, &WHOLE),
+            Fault::Range => rewrite(rng, fields, &mut others, &OUTSIDE),
+            Fault::Number => {
+                others.append(&mut own);
+                rewrite(rng, fields, &mut others, &BAD);
+            }
+            Fault::Count => match rng.below(4) {
+                0 => fields.truncate(1 + rng.below(fields.len() - 1)),
+                1 => drop(fields.pop()),
+                2 => fields.push(Vec::new()),
+                _ => fields.insert(word + 1, rng.pick(&NUMBERS).as_bytes().to_vec()),
+            },
+            Fault::Word if word == fields.len() => {}
+            Fault::Word => match rng.below(8) {
+                0 => fields.truncate(word),
+                1 => drop(fields.remove(word)),
+                2 => fields.rotate_left(1),
+                _ => fields[word] = rng.pick(&WORDS).as_bytes().to_vec(),
+            },
+        }
+    }
+}
+
+/// A legal flow with two or three faults in one line, often line 1, so that their order decides.
+fn at_borders(rng: &mut Rng) -> Vec<u8> {
+    let flow = flow(rng);
+    let mut lines: Vec<Vec<u8>> = flow.text().split('\n').map(|l| l.as_bytes().to_vec()).collect();
+    let at = if rng.percent(25) { 0 } else { 1 + rng.below(flow.instructions.len()) };
+    let mut fields: Vec<Vec<u8>> = lines[at].split(|b| *b == b',').map(|f| f.to_vec()).collect();
+    let mut faults = vec![Fault::Range, Fault::Number, Fault::Count, Fault::Word];
+    if at > 0 {
+        faults.insert(0, Fault::Turn);
+    }
+    let kept = 2 + rng.below(2);
+    while faults.len() > kept {
+        take(rng, &mut faults);
+    }
+    put_faults(rng, &faults, &mut fields, at.min(1));
+    lines[at] = fields.join(&b',');
+    lines.join(&10u8)
+}
+
 fn line_edit(rng: &mut Rng, text: &mut Vec<u8>) {
     let mut lines: Vec<Vec<u8>> = text.split(|b| *b == 10).map(|l| l.to_vec()).collect();
     let i = rng.below(lines.len());
@@ -430,6 +505,9 @@ fn long_text(rng: &mut Rng, mut text: Vec<u8>) -> Vec<u8> {
 
 /// A text that is damaged once or more; now and then it is legal all the same.
 pub fn damaged(rng: &mut Rng) -> Vec<u8> {
+    if rng.below(6) == 0 {
+        return at_borders(rng);
+    }
     if rng.percent(40) {
         return aimed(rng);
     }

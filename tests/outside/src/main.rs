@@ -2,9 +2,9 @@
 //!
 //!     outside [SEED [ROUNDS]]
 //!
-//! The implementation (documents/) is written from documents 01 and 000. Some of the texts go to the program `report` too, if its path
-//! is in REPORT. Prints the seed, the cases by sort and outcome, and `N cases, M differences`. A difference is printed with its case in
-//! full, and the status is then 1; it is 1 too if an outcome that document 01 knows was never met.
+//! The implementation (documents/) is written from documents 01, 02 (T-02) and 000. Some of the texts go to the program `report` too, if
+//! its path is in REPORT. Prints the seed, the cases by sort and outcome, and `N cases, M differences`. A difference is printed with its
+//! case in full, and the status is then 1; it is 1 too if an outcome that documents 01 and 02 know was never met, or refusal 4 was met.
 
 mod cases;
 mod documents;
@@ -24,6 +24,9 @@ use std::fmt::Debug;
 use std::process::ExitCode;
 
 const MOST: usize = 65_536;
+
+/// The refusals of the text that must be met, by documents 01 and 02; 4 no longer occurs.
+const OF_TEXT: [u32; 10] = [1, 2, 3, 5, 6, 7, 8, 13, 14, 15];
 
 /// The outcomes that must be met, beside the refusals of the text.
 const OUTCOMES: [(&str, &[&str]); 5] = [
@@ -73,7 +76,7 @@ impl Tally {
 
     /// The outcomes that were never met, of the sorts that were tried.
     fn missing(&self, tried: impl Fn(&str) -> bool) -> Vec<String> {
-        let refusals: Vec<String> = (1..=8).map(|n| format!("refused {n}")).collect();
+        let refusals = OF_TEXT.map(|n| format!("refused {n}"));
         let mut missing = Vec::new();
         for (sort, outcomes) in OUTCOMES.into_iter().filter(|(sort, _)| tried(sort)) {
             let of_text = refusals.iter().filter(|_| sort != "tape").map(String::as_str);
@@ -87,6 +90,11 @@ impl Tally {
             missing.push("cells past 65,536 after a refusal".to_string());
         }
         missing
+    }
+
+    /// Whether refusal 4 was met. If the library alone gives it, that is a difference.
+    fn met_4(&self) -> bool {
+        self.by_outcome.keys().any(|(_, outcome)| outcome == "refused 4")
     }
 
     fn cases(&self) -> usize {
@@ -320,8 +328,11 @@ fn main() -> ExitCode {
     for outcome in &missing {
         println!("never met: {outcome}");
     }
+    if tally.met_4() {
+        println!("met, but no longer occurs: refused 4");
+    }
     println!("{} cases, {} differences", tally.cases(), tally.differences);
-    if tally.differences > 0 || !missing.is_empty() {
+    if tally.differences > 0 || !missing.is_empty() || tally.met_4() {
         return ExitCode::FAILURE;
     }
     ExitCode::SUCCESS

@@ -1,6 +1,6 @@
 //! A flow, as document 01 describes it ("The flow text"), and a refusal.
 
-/// The number and the place of document 01's table "Where a request is turned back".
+/// The number and the place of document 01's table "Where a request is turned back", with the numbers that document 02 (T-02) adds.
 #[derive(Clone, Copy, Debug, PartialEq, Eq)]
 pub struct Refusal {
     pub number: u32,

@@ -1,4 +1,4 @@
-//! The test pieces of document 01 ("Test pieces") and its flow A ("The report").
+//! The test pieces of document 01 ("Test pieces"), case `-0` as document 02 (T-02) has it, and flow A ("The report").
 
 use super::flow::{Flow, Refusal};
 use super::interpreter::{run, End, Ran};
@@ -22,6 +22,11 @@ fn flow(text: &str) -> Flow {
 fn refused(text: &str) -> (u32, u64) {
     let Refusal { number, place } = read(text.as_bytes()).expect_err("a text at fault");
     (number, place)
+}
+
+/// Line 1 and so many instruction lines.
+fn nops(count: usize) -> String {
+    (1..=count).fold("flow,1,0,1\n".to_string(), |text, i| text + &format!("{i},nop,1\n"))
 }
 
 fn on_one_tape(text: &str, limit: u64, records: &[i32], free: usize) -> Ran {
@@ -75,41 +80,145 @@ fn texts() {
         assert_eq!(refused(&set(c)), (5, 2));
     }
     for c in ["-0", "", "-", "--1", "+1", "01", "-01", "00", "1 ", "1.0", "x"] {
-        assert_eq!(refused(&set(c)), (4, 2));
+        assert_eq!(refused(&set(c)), (15, 2));
     }
-    let nops = |count: usize| (1..=count).fold("flow,1,0,1\n".to_string(), |text, i| text + &format!("{i},nop,1\n"));
     assert_eq!(flow(&nops(64)).instructions.len(), 64);
     for (text, refusal) in [
         ("".to_string(), (2, 0)),
         ("flow,1,0,1".to_string(), (3, 0)),
         ("x".repeat(4097), (1, 0)),
         ("x".repeat(4096), (3, 0)),
-        ("x".repeat(4095) + "\n", (4, 1)),
-        ("\n".to_string(), (4, 1)),
+        ("x".repeat(4095) + "\n", (13, 1)),
+        ("\n".to_string(), (13, 1)),
         ("flow,1,0,1\n".to_string(), (8, 2)),
         ("flow,0,0,1\n".to_string(), (5, 1)),
-        ("flow,4,0,x\n1,stop\n".to_string(), (4, 1)),
+        ("flow,4,0,x\n1,stop\n".to_string(), (15, 1)),
         ("flow,1,4,1\n1,stop\n".to_string(), (5, 1)),
         ("flow,1,0,5\n1,stop\n".to_string(), (5, 1)),
-        ("flow,-1,0,1\n1,stop\n".to_string(), (4, 1)),
-        ("flow,1,0,1\n\n".to_string(), (4, 2)),
-        ("flow,1,0,1\n1,halt\n".to_string(), (4, 2)),
-        ("flow,1,0,1\n1,stop,1\n".to_string(), (4, 2)),
+        ("flow,-1,0,1\n1,stop\n".to_string(), (15, 1)),
+        ("flow,1,0,1\n\n".to_string(), (13, 2)),
+        ("flow,1,0,1\n1,halt\n".to_string(), (13, 2)),
+        ("flow,1,0,1\n1,stop,1\n".to_string(), (14, 2)),
         ("flow,1,0,1\n2,stop\n".to_string(), (6, 2)),
         (format!("flow,1,0,1\n{long},stop\n"), (6, 2)),
         ("flow,1,0,1\n2,read,2,1,1,1\n".to_string(), (6, 2)),
-        ("flow,1,0,1\n2,read,2,1,1,01\n".to_string(), (4, 2)),
+        ("flow,1,0,1\n2,read,2,1,1,01\n".to_string(), (15, 2)),
         ("flow,1,0,1\n1,read,2,1,1,1\n".to_string(), (5, 2)),
         ("flow,1,0,1\n1,put,1,1,1\n".to_string(), (5, 2)),
         ("flow,1,0,1\n1,nop,2\n2,copy,1,2,1\n".to_string(), (5, 3)),
         ("flow,1,0,1\n1,nop,1\n2,nop,0\n3,nop,4\n".to_string(), (7, 3)),
         (format!("flow,1,0,1\n1,nop,1\n2,nop,{long}\n"), (7, 3)),
-        ("flow,1,0,1\n1,nop,9\n2,stop,1\n".to_string(), (4, 3)),
+        ("flow,1,0,1\n1,nop,9\n2,stop,1\n".to_string(), (14, 3)),
         (nops(65), (8, 66)),
         (nops(64) + "halt\n", (8, 66)),
-        (nops(63) + "halt\n65,stop\n", (4, 65)),
+        (nops(63) + "halt\n65,stop\n", (13, 65)),
     ] {
         assert_eq!(refused(&text), refusal, "{text}");
+    }
+}
+
+/// The borders between 13, 14 and 15, and towards 6, 5, 7 and 8.
+fn borders() {
+    for (text, refusal) in [
+        // Line 1: the first field is not `flow`, whatever else is wrong.
+        ("\n1,stop\n", (13, 1)),
+        ("halt\n", (13, 1)),
+        ("stop\n1,stop\n", (13, 1)),
+        ("1,stop\n", (13, 1)),
+        ("1,flow,1,0,1\n1,stop\n", (13, 1)),
+        ("read,1,0,1\n1,stop\n", (13, 1)),
+        ("Flow,1,0,1\n1,stop\n", (13, 1)),
+        (",1,0,1\n1,stop\n", (13, 1)),
+        ("halt,1,0\n1,stop\n", (13, 1)),
+        ("halt,1,0,01\n1,stop\n", (13, 1)),
+        ("halt,4,0,1\n1,stop\n", (13, 1)),
+        ("halt,-1,x\n1,stop\n", (13, 1)),
+        // Line 1: the count of fields.
+        ("flow\n", (14, 1)),
+        ("flow\n1,stop\n", (14, 1)),
+        ("flow,\n1,stop\n", (14, 1)),
+        ("flow,1,0\n1,stop\n", (14, 1)),
+        ("flow,1,0,1,\n1,stop\n", (14, 1)),
+        ("flow,x,-0\n1,stop\n", (14, 1)),
+        ("flow,1,0,01,1\n1,stop\n", (14, 1)),
+        ("flow,4,0\n1,stop\n", (14, 1)),
+        // Line 1: a number badly written, then one out of range.
+        ("flow,1,0,x\n", (15, 1)),
+        ("flow,01,0,1\n1,stop\n", (15, 1)),
+        ("flow,1,-0,1\n1,stop\n", (15, 1)),
+        ("flow,1,0,\n1,stop\n", (15, 1)),
+        ("flow,4,0,-1\n1,stop\n", (15, 1)),
+        ("flow,01,4,5\n1,stop\n", (15, 1)),
+        ("flow,4,0,1\n1,stop\n", (5, 1)),
+        // An instruction line: the second field is missing or no instruction word, whatever else is wrong.
+        ("flow,1,0,1\nstop\n", (13, 2)),
+        ("flow,1,0,1\n1\n", (13, 2)),
+        ("flow,1,0,1\n2\n", (13, 2)),
+        ("flow,1,0,1\n01\n", (13, 2)),
+        ("flow,1,0,1\n,\n", (13, 2)),
+        ("flow,1,0,1\n1,\n", (13, 2)),
+        ("flow,1,0,1\n1,,1\n", (13, 2)),
+        ("flow,1,0,1\n1,flow\n", (13, 2)),
+        ("flow,1,0,1\n1,flow,1,0,1\n", (13, 2)),
+        ("flow,1,0,1\nflow,1,0,1\n1,stop\n", (13, 2)),
+        ("flow,1,0,1\nstop,1\n", (13, 2)),
+        ("flow,1,0,1\n1,1,stop\n", (13, 2)),
+        ("flow,1,0,1\n1,Stop\n", (13, 2)),
+        ("flow,1,0,1\n1,stop\r\n", (13, 2)),
+        ("flow,1,0,1\n01,halt\n", (13, 2)),
+        ("flow,1,0,1\n2,halt\n", (13, 2)),
+        ("flow,1,0,1\n1,halt,-0,1001,9\n", (13, 2)),
+        // An instruction line: the count of fields.
+        ("flow,1,0,1\n1,nop\n", (14, 2)),
+        ("flow,1,0,1\n1,stop,\n", (14, 2)),
+        ("flow,1,0,1\n01,nop\n", (14, 2)),
+        ("flow,1,0,1\n,stop,x\n", (14, 2)),
+        ("flow,1,0,1\n1,read,01,-1\n", (14, 2)),
+        ("flow,1,0,1\n1,set,-0,1,1,1\n", (14, 2)),
+        ("flow,1,0,1\n2,nop\n", (14, 2)),
+        ("flow,1,0,1\n1,set,1001,1\n", (14, 2)),
+        ("flow,1,0,1\n1,nop,9,9\n", (14, 2)),
+        // An instruction line: a number badly written, be it its own, a constant or a target.
+        ("flow,1,0,1\n,stop\n", (15, 2)),
+        ("flow,1,0,1\n01,stop\n", (15, 2)),
+        ("flow,1,0,1\n-1,stop\n", (15, 2)),
+        ("flow,1,0,1\nflow,stop\n", (15, 2)),
+        ("flow,1,0,1\n02,set,1001,1,1\n", (15, 2)),
+        ("flow,1,0,1\n2,set,-0,1,1\n", (15, 2)),
+        ("flow,1,0,1\n1,over,-0,2,1,1\n", (15, 2)),
+        ("flow,1,0,1\n1,under,-1,5,1,1\n", (15, 2)),
+        ("flow,1,0,1\n1,nop,\n", (15, 2)),
+        ("flow,1,0,1\n1,nop,-1\n", (15, 2)),
+        ("flow,1,0,1\n2,nop,01\n", (15, 2)),
+        ("flow,1,0,1\n1,read,2,1,1,-0\n", (15, 2)),
+        // Only then out of turn, then out of range, and after all lines the targets.
+        ("flow,1,0,1\n0,stop\n", (6, 2)),
+        ("flow,1,0,1\n2,set,1001,1,9\n", (6, 2)),
+        ("flow,1,0,1\n1,set,1001,1,9\n", (5, 2)),
+        ("flow,1,0,1\n1,set,1000,1,9\n", (7, 2)),
+        // The first line at fault, and 7 only after all lines.
+        ("flow,4,0,1\n1,halt\n", (5, 1)),
+        ("flow,1,0,x\n1\n", (15, 1)),
+        ("flow,1,0,1\n1,nop,x\n2,halt\n", (15, 2)),
+        ("flow,1,0,1\n1,nop\n2,halt\n", (14, 2)),
+        ("flow,1,0,1\n2,stop\n2,halt\n", (6, 2)),
+        ("flow,1,0,1\n1,set,1001,1,1\n2,nop\n", (5, 2)),
+        ("flow,1,0,1\n1,nop,9\n2,halt\n", (13, 3)),
+        ("flow,1,0,1\n1,nop,9\n2,nop\n", (14, 3)),
+        ("flow,1,0,1\n1,nop,9\n2,nop,-1\n", (15, 3)),
+        ("flow,1,0,1\n1,stop\n\n", (13, 3)),
+    ] {
+        assert_eq!(refused(text), refusal, "{text}");
+    }
+    for (lines, line, refusal) in [
+        (64, "", (8, 66)),
+        (64, "65,nop", (8, 66)),
+        (64, "065,nop,1", (8, 66)),
+        (63, "", (13, 65)),
+        (63, "64,nop", (14, 65)),
+        (63, "064,nop,1", (15, 65)),
+    ] {
+        assert_eq!(refused(&format!("{}{line}\n65,nop,1\n", nops(lines))), refusal, "{lines} lines, then {line}");
     }
 }
 
@@ -166,10 +275,11 @@ fn samples() {
     assert_eq!(part(7, &[2, usize::MAX, 3], 1), (0, 0));
 }
 
-/// Asserts the pieces, and some that the words of document 01 settle directly.
+/// Asserts the pieces, and some that the words of documents 01 and 02 settle directly.
 pub fn check() {
     runs();
     texts();
+    borders();
     reports();
     samples();
 }

@@ -1,4 +1,5 @@
-//! Reading a flow text: document 01, "The flow text", and the rows 1 to 8 of "Where a request is turned back".
+//! Reading a flow text: document 01, "The flow text", and the rows 1 to 8 of "Where a request is turned back", with 13, 14 and 15 of
+//! document 02 (T-02) where 4 stood.
 
 use super::flow::{Flow, Instruction, Refusal};
 
@@ -53,27 +54,28 @@ fn constant(field: &[u8]) -> Option<i64> {
     }
 }
 
-/// Line 1, `flow,T,O,V`: refusal 4 before refusal 5.
+/// Line 1, `flow,T,O,V`: refusal 13 before 14, 14 before 15, and 15 before 5.
 fn first_line(fields: &[&[u8]]) -> Result<Flow, u32> {
-    let [word, t, o, v] = *fields else { return Err(4) };
-    let (b"flow", Some(t), Some(o), Some(v)) = (word, natural(t), natural(o), natural(v)) else { return Err(4) };
+    let [b"flow", rest @ ..] = fields else { return Err(13) };
+    let [t, o, v] = rest else { return Err(14) };
+    let (Some(t), Some(o), Some(v)) = (natural(t), natural(o), natural(v)) else { return Err(15) };
     if !(1..=TAPES).contains(&t) || !(0..=OUTPUTS).contains(&o) || !(1..=VARIABLES).contains(&v) {
         return Err(5);
     }
     Ok(Flow { tapes: t as usize, outputs: o as usize, variables: v as usize, instructions: Vec::new() })
 }
 
-/// The line of the instruction whose turn is `turn`: refusal 4 before 6, and 6 before 5.
+/// The line of the instruction whose turn is `turn`: refusal 13 before 14, 14 before 15, 15 before 6, and 6 before 5.
 fn instruction_line(fields: &[&[u8]], turn: usize, flow: &Flow) -> Result<Instruction, u32> {
-    let [number, word, rest @ ..] = fields else { return Err(4) };
-    let number = natural(number).ok_or(4u32)?;
-    let kinds = kinds(word).ok_or(4u32)?;
+    let [number, word, rest @ ..] = fields else { return Err(13) };
+    let kinds = kinds(word).ok_or(13u32)?;
     if kinds.len() != rest.len() {
-        return Err(4);
+        return Err(14);
     }
+    let number = natural(number).ok_or(15u32)?;
     let mut values = Vec::new();
     for (&kind, field) in kinds.iter().zip(rest) {
-        values.push(if kind == Kind::Constant { constant(field) } else { natural(field) }.ok_or(4u32)?);
+        values.push(if kind == Kind::Constant { constant(field) } else { natural(field) }.ok_or(15u32)?);
     }
     if number != turn as i64 {
         return Err(6);
@@ -107,7 +109,7 @@ fn instruction(word: &[u8], values: &[i64]) -> Instruction {
     }
 }
 
-/// The flow of a legal text, or the refusal that document 01's table gives it, from the whole text down to "after all lines".
+/// The flow of a legal text, or the refusal that the table of documents 01 and 02 gives it, from the whole text down to "after all lines".
 pub fn read(text: &[u8]) -> Result<Flow, Refusal> {
     let refuse = |number, place: usize| Err(Refusal { number, place: place as u64 });
     if text.len() > BYTES {

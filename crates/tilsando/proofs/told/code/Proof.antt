@@ -1,7 +1,7 @@
 -- `tilsando::told::code` meets its contract: a place up to 66 and a number below 256 fit.
 use native.Mathlib.Omega.{arith}
 use borrow.Author.Needs.{needs}
-use Rattle.flow.proofs.Places.{number-small}
+use Rattle.flow.proofs.Numbers.{number-small}
 use Rattle.tilsando.proofs.told.code.Statement.{statement}
 use Rattle.tilsando.proofs.told.code.Tie as tie
 
