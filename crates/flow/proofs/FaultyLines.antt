@@ -57,5 +57,5 @@ abbrev ought : ℕ → List (String × ℕ) → List (Option (ℕ × ℕ))
 ought place = map (λ (l : String × ℕ). some (l .1, place))
 
 pub faulty-lines : (found asHead heads ≡ ought 1 heads) × (found asInstruction instructions ≡ ought 2 instructions)
-unfolding Read.readFlow Read.readRest Read.readHead Read.headOf Read.readLines Read.readLine Read.lostTarget Read.numerals bind Read.all Words.firstNamed Split.lines Split.split Split.parts Split.lead Split.sameWord Number.natural Number.numeral Number.negative Number.digitsAfter
+unfolding Read.readFlow Read.readRest Read.readHead Read.headOf Read.readLines Read.readLine Read.numerals bind Read.all Words.firstNamed Split.lines Split.split Split.parts Split.lead Split.sameWord Number.natural Number.numeral Number.negative Number.digitsAfter
 faulty-lines = (refl, refl)

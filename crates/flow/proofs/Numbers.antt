@@ -1,6 +1,6 @@
 -- The numbers of refusals: they lie from 1 to 15, and none is 4, where 13, 14 and 15 stand now (document 02, T-02).
 use mathlib.Core.Path.{_≡_}
-use Prim.Native.Nat.{_≤_, _<_}
+use Prim.Native.Nat.{_≤_}
 use native.Mathlib.Omega.{arith}
 use Rattle.flow.specs.Refusals.{numberOf}
 use Rattle.flow.specs.declared.Refusal.{Refusal}
@@ -26,8 +26,8 @@ numbered WrongTapes = (omega arith, omega arith, λ e. omega arith)
 pub number-first : (why : Refusal) → 1 ≤ numberOf why
 number-first why = numbered why .0
 
-pub number-small : (why : Refusal) → numberOf why < 256
-number-small why = omega (arith, numbered why)
+pub number-last : (why : Refusal) → numberOf why ≤ 15
+number-last why = numbered why .1
 
 -- refusal 4 does not occur
 pub never-four : (why : Refusal) → numberOf why ≡ 4 → ⊥

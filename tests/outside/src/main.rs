@@ -4,7 +4,7 @@
 //!
 //! The implementation (documents/) is written from documents 01, 02 (T-02) and 000. Some of the texts go to the program `report` too, if
 //! its path is in REPORT. Prints the seed, the cases by sort and outcome, and `N cases, M differences`. A difference is printed with its
-//! case in full, and the status is then 1; it is 1 too if an outcome that documents 01 and 02 know was never met, or refusal 4 was met.
+//! case in full, and the status is then 1; it is 1 too if an outcome that documents 01 and 02 know was never met.
 
 mod cases;
 mod documents;
@@ -25,7 +25,7 @@ use std::process::ExitCode;
 
 const MOST: usize = 65_536;
 
-/// The refusals of the text that must be met, by documents 01 and 02; 4 no longer occurs.
+/// The refusals of the text that must be met, by documents 01 and 02.
 const OF_TEXT: [u32; 10] = [1, 2, 3, 5, 6, 7, 8, 13, 14, 15];
 
 /// The outcomes that must be met, beside the refusals of the text.
@@ -90,11 +90,6 @@ impl Tally {
             missing.push("cells past 65,536 after a refusal".to_string());
         }
         missing
-    }
-
-    /// Whether refusal 4 was met. If the library alone gives it, that is a difference.
-    fn met_4(&self) -> bool {
-        self.by_outcome.keys().any(|(_, outcome)| outcome == "refused 4")
     }
 
     fn cases(&self) -> usize {
@@ -328,11 +323,8 @@ fn main() -> ExitCode {
     for outcome in &missing {
         println!("never met: {outcome}");
     }
-    if tally.met_4() {
-        println!("met, but no longer occurs: refused 4");
-    }
     println!("{} cases, {} differences", tally.cases(), tally.differences);
-    if tally.differences > 0 || !missing.is_empty() || tally.met_4() {
+    if tally.differences > 0 || !missing.is_empty() {
         return ExitCode::FAILURE;
     }
     ExitCode::SUCCESS

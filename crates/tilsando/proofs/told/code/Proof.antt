@@ -1,15 +1,15 @@
 -- `tilsando::told::code` meets its contract: a place up to 66 and a number below 256 fit.
 use native.Mathlib.Omega.{arith}
 use borrow.Author.Needs.{needs}
-use Rattle.flow.proofs.Numbers.{number-small}
+use Rattle.flow.proofs.Numbers.{number-last}
 use Rattle.tilsando.proofs.told.code.Statement.{statement}
 use Rattle.tilsando.proofs.told.code.Tie as tie
 
 cast-number : tie.Need-cast-number
-cast-number c = record { fits = omega (arith, number-small (c .before .before .args .why), c .number .ensures) }
+cast-number c = record { fits = omega (arith, number-last (c .before .before .args .why), c .number .ensures) }
 
 add-result : tie.Need-add-result
-add-result c = omega (arith, number-small (c .before .before .args .why), c .number .ensures)
+add-result c = omega (arith, number-last (c .before .before .args .why), c .number .ensures)
 
 pub code-spec : {M : Type 1} → statement M
 code-spec =
