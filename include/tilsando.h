@@ -25,10 +25,10 @@
  *    3 last byte of the text is not 10  0         no two exits                       0
  *    5 number outside its range         line   12 not T lengths, or they do not add
  *    6 instruction number out of turn   line      up to the row of records           0
- *    7 N, P or M names no instruction   line   13 unknown word, or none: `1,halt`    line
+ *    7 N, P or M names no instruction   line   13 unknown or missing word: `1,halt`  line
  *    8 line 66 exists, or only line 1   66, 2  14 wrong count of fields: `1,nop`     line
  *    9 too few cells                    0      15 badly written number: `1,nop,-1`   line
- * 4 is the number of no refusal. 7 names the lowest such line. In one line the faults are looked for in the order 13, 14, 15, 6, 5.
+ * No refusal has number 4. 7 names the lowest such line. In one line the faults are looked for in the order 13, 14, 15, 6, 5.
  *
  * RESULT ROWS are two, p, m and answer. Each may have any length. If it is shorter than its values, only the first values are written.
  * If it is longer, the elements past the values stay as they were. In two, p and m element i belongs to instruction i + 1; there are 64
