@@ -1,4 +1,4 @@
--- The numbers of refusals: they lie from 1 to 15, and none is 4, where 13, 14 and 15 stand now (document 02, T-02).
+-- The numbers of refusals: they lie from 1 to 15, and no number is 4, where 13, 14 and 15 stand now (document 02, T-02).
 use mathlib.Core.Path.{_≡_}
 use Prim.Native.Nat.{_≤_}
 use native.Mathlib.Omega.{arith}
