@@ -30,9 +30,9 @@ asInstruction line = refusal (readFlow (bytes "flow,1,0,1\n" ++ bytes line ++ by
 abbrev heads : List (String × ℕ)
 heads =
     -- the first field is not `flow`
-    ("", 13) ∷ ("stop", 13) ∷ ("1,stop", 13) ∷ ("flows,1,0,1", 13) ∷ ("x,-1,01", 13)
+    ("", 13) ∷ ("stop", 13) ∷ ("1,stop", 13) ∷ ("flows,1,0,1", 13) ∷ ("flows,9,0,1", 13) ∷ ("x,-1,01", 13)
     -- the count of fields is wrong
-    ∷ ("flow", 14) ∷ ("flow,1,0", 14) ∷ ("flow,1,0,1,", 14) ∷ ("flow,x,01", 14)
+    ∷ ("flow", 14) ∷ ("flow,1,0", 14) ∷ ("flow,1,0,1,", 14) ∷ ("flow,x,01", 14) ∷ ("flow,9,0", 14)
     -- a number is badly written; a number is out of its range
     ∷ ("flow,1,0,", 15) ∷ ("flow,01,0,1", 15) ∷ ("flow,9,0,-1", 15) ∷ ("flow,9,0,1", 5)
     ∷ []
@@ -40,9 +40,10 @@ heads =
 abbrev instructions : List (String × ℕ)
 instructions =
     -- the second field is missing, or no instruction word
-    ("", 13) ∷ ("stop", 13) ∷ ("1", 13) ∷ ("1,", 13) ∷ ("1,flow,1,0,1", 13) ∷ ("1,halt", 13) ∷ ("x,halt", 13) ∷ ("x,halt,01", 13)
+    ("", 13) ∷ ("stop", 13) ∷ ("1", 13) ∷ ("1,", 13) ∷ ("1,flow,1,0,1", 13) ∷ ("1,halt", 13) ∷ ("x,halt", 13) ∷ ("9,halt", 13)
+    ∷ ("x,halt,01", 13)
     -- the count of fields is wrong for that word
-    ∷ ("1,nop", 14) ∷ ("1,stop,", 14) ∷ ("x,nop", 14) ∷ ("x,set,01", 14)
+    ∷ ("1,nop", 14) ∷ ("1,stop,", 14) ∷ ("x,nop", 14) ∷ ("9,nop", 14) ∷ ("x,set,01", 14) ∷ ("1,set,1001,1", 14)
     -- a number is badly written, the line's own, a constant or a target
     ∷ ("x,nop,1", 15) ∷ ("9,nop,01", 15) ∷ ("1,nop,-1", 15) ∷ ("1,set,-0,1,1", 15) ∷ ("9,set,1001,1,01", 15)
     -- it is out of turn; a number is out of its range
