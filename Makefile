@@ -3,7 +3,7 @@
 # make lib                        the static library for C and Rust: target/staticlib/libtilsando.a
 # make examples                   builds and runs the makers' programs in C and in Rust
 # make outside SEED=1             library and program against a second implementation, on generated texts, tapes and samples
-# make inputs                     the program on inputs that come in pieces, and that cannot be read
+# make inputs                     report and the makers' programs on inputs that come in pieces, have no bytes or cannot be read
 # make bench                      the library against plain Rust: the tables of docs/BENCHMARKS.md
 # make bench BEFORE=old.a         the same, and against an older library with the same interface
 
@@ -27,8 +27,8 @@ lib:
 	@tools/proving staticlib tilsando
 	@echo target/staticlib/libtilsando.a
 
-inputs: program
-	@python3 tests/inputs.py target/bin/report
+inputs: program examples
+	@python3 tests/inputs.py target/bin/report target/examples/c target/examples/rust
 
 examples: lib
 	@tools/examples "$(CC)" "$(RUSTC)"

@@ -16,19 +16,22 @@
  * length of the call. A `const` row is only read. A row that is written must not overlap another row of the call. A pointer must be
  * aligned for its type and must not be null. This holds for a row of no elements too; nothing is read or written there.
  *
+ * TEXT. A text of no bytes is a flow: T = 1, no outputs, one variable and the single instruction `stop`. Pass text_len 0 and any pointer
+ * that is not null; it is not read. So do not pass what could not be read as a text of no bytes: look at the error first.
+ *
  * Every function answers for every text, number and row. It keeps no state, allocates no memory and prints nothing.
  *
  * RETURN VALUE. 0 is an answer. Any other value is a refusal, place * 256 + number (TILSANDO_PLACE, TILSANDO_NUMBER). A refusal leaves
  * every row as it was, except the cells. The numbers, with their places:
  *    1 text of more than 4,096 bytes    0      10 row shorter than the distance      0
- *    2 text of no bytes                 0      11 no such instruction, or it has
- *    3 last byte of the text is not 10  0         no two exits                       0
- *    5 number outside its range         line   12 not T lengths, or they do not add
- *    6 instruction number out of turn   line      up to the row of records           0
- *    7 N, P or M names no instruction   line   13 unknown or missing word: `1,halt`  line
- *    8 line 66 exists, or only line 1   66, 2  14 wrong count of fields: `1,nop`     line
- *    9 too few cells                    0      15 badly written number: `1,nop,-1`   line
- * No refusal has number 4. 7 names the lowest such line. In one line the faults are looked for in the order 13, 14, 15, 6, 5.
+ *    3 text has bytes, the last not 10  0      11 no such instruction, or it has
+ *    5 number outside its range         line      no two exits                       0
+ *    6 instruction number out of turn   line   12 not T lengths, or they do not add
+ *    7 N, P or M names no instruction   line      up to the row of records           0
+ *    8 line 66 exists, or only line 1   66, 2  13 unknown or missing word: `1,halt`  line
+ *    9 too few cells                    0      14 wrong count of fields: `1,nop`     line
+ *                                              15 badly written number: `1,nop,-1`   line
+ * No refusal has number 2 or 4. 7 names the lowest such line. In one line the faults are looked for in the order 13, 14, 15, 6, 5.
  *
  * RESULT ROWS are two, p, m and answer. Each may have any length. If it is shorter than its values, only the first values are written.
  * If it is longer, the elements past the values stay as they were. In two, p and m element i belongs to instruction i + 1; there are 64
@@ -47,7 +50,7 @@ extern "C" {
 #endif
 
 /* The version of this interface. It rises by 1 with each change after which a program must be changed or compiled anew. */
-#define TILSANDO_VERSION 2
+#define TILSANDO_VERSION 3
 
 /* The limits: bytes of a text; instructions, input tapes, output tapes and variables of a flow; constants; steps of a run; cells used. */
 #define TILSANDO_BYTES 4096

@@ -1,9 +1,10 @@
 #!/usr/bin/env python3
-"""The program `report` on inputs that come whole, in pieces or interrupted, and on inputs that cannot be read.
+"""The programs that read a flow, on inputs that come whole, in pieces or interrupted, on inputs without bytes, and on inputs that cannot be
+read: `report`, which reads standard input, and the makers' programs in C and Rust, which read the file that they are given the name of.
 
-    inputs.py PROGRAM
+    inputs.py REPORT C RUST
 
-What it writes is compared byte for byte; its status is 0 in all cases. Prints one line if all is as expected.
+What they write is compared byte for byte, and their status. Prints one line if all is as expected.
 """
 import fcntl
 import os
@@ -17,11 +18,17 @@ import tempfile
 import termios
 import time
 
-PROGRAM = sys.argv[1]
+REPORT, *MAKERS = sys.argv[1:]
+C = MAKERS[0]
 FLOW_A = b"flow,1,0,1\n1,read,1,1,2,3\n2,over,5,1,1,3\n3,stop\n"
 REPORT_A = b"report,3,19\n1,p,1\n1,m,1\n2,p,2\n2,m,2\n"
+SAMPLES_A = pathlib.Path("examples/expected/a").read_bytes()
+EMPTY = b"report,1,1\n"
 UNREAD = b"report: standard input cannot be read\n"
 UNWRITTEN = b"report: standard output cannot be written\n"
+UNREAD_FILE = b"the flow cannot be read\n"
+# It can be opened, and every read of its start fails.
+UNREADABLE = "/proc/self/mem"
 PAUSE = 0.02
 LIMIT = 20
 
@@ -33,7 +40,7 @@ print(c.read(0, ctypes.create_string_buffer(1), 1) < 0 and ctypes.get_errno() ==
 """
 
 
-def started(stdin, command=(PROGRAM,), stdout=subprocess.PIPE):
+def started(stdin, command=(REPORT,), stdout=subprocess.PIPE):
     return subprocess.Popen(command, stdin=stdin, stdout=stdout, stderr=subprocess.PIPE)
 
 
@@ -54,21 +61,34 @@ def wait(process, done):
         time.sleep(PAUSE / 10)
 
 
-def whole(text, stdout=subprocess.PIPE):
+def whole(text, command=(REPORT,), stdout=subprocess.PIPE):
     with tempfile.TemporaryFile() as file:
         file.write(text)
         file.seek(0)
-        return told(started(file, stdout=stdout))
+        return told(started(file, command, stdout))
+
+
+def opened(name, how=os.O_RDONLY):
+    """A file, a directory or a device as standard input."""
+    file = os.open(name, how)
+    result = told(started(file))
+    os.close(file)
+    return result
+
+
+def closed(*command):
+    """Without a standard input."""
+    return told(started(None, ("sh", "-c", 'exec "$0" "$@" <&-', *command)))
 
 
 def unread(pipe):
     return struct.unpack("i", fcntl.ioctl(pipe, termios.FIONREAD, bytes(4)))[0]
 
 
-def pieces(*parts):
-    """Each part is sent once the one before it was read."""
+def pieces(*parts, command=(REPORT,)):
+    """Each part is sent once the one before it was read, after a pause."""
     out, into = os.pipe()
-    process = started(out)
+    process = started(out, command)
     for part in parts:
         os.write(into, part)
         wait(process, lambda: unread(into) == 0)
@@ -111,43 +131,71 @@ def interrupted(command, *parts):
     return told(process)
 
 
-def cases():
-    """A name, what the program did, and what it has to write to standard output and to standard error."""
+def bytewise(text):
+    return (bytes([b]) for b in text)
+
+
+def of_report():
+    """A name, what the program `report` did, and what it has to write to standard output and to standard error."""
     # Line 5 has no word. No legal flow has 4,096 bytes.
     longest = FLOW_A + b"x" * (4095 - len(FLOW_A)) + b"\n"
     too_long = FLOW_A + b"x" * (4096 - len(FLOW_A)) + b"\n"
     yield "flow A", whole(FLOW_A), REPORT_A, b""
-    yield "no bytes", whole(b""), b"refused,2,0\n", b""
+    yield "an empty file", whole(b""), EMPTY, b""
+    yield "a pipe without bytes", pieces(), EMPTY, b""
+    yield "the null device", opened(os.devnull), EMPTY, b""
+    yield "one byte 10", whole(b"\n"), b"refused,13,1\n", b""
+    yield "one byte 10, alone in a pipe", pieces(b"\n"), b"refused,13,1\n", b""
+    yield "line 1 alone", whole(b"flow,1,0,1\n"), b"refused,8,2\n", b""
     yield "4,096 bytes", whole(longest), b"refused,13,5\n", b""
     yield "4,097 bytes", whole(too_long), b"refused,1,0\n", b""
     yield "flow A in two halves", pieces(FLOW_A[:20], FLOW_A[20:]), REPORT_A, b""
-    yield "flow A byte by byte", pieces(*(bytes([b]) for b in FLOW_A)), REPORT_A, b""
+    yield "flow A byte by byte", pieces(*bytewise(FLOW_A)), REPORT_A, b""
     yield "4,096 bytes in two halves", pieces(longest[:2048], longest[2048:]), b"refused,13,5\n", b""
     yield "4,097 bytes in two halves", pieces(too_long[:2048], too_long[2048:]), b"refused,1,0\n", b""
     yield "4,097 bytes, the last one alone", pieces(too_long[:4096], too_long[4096:]), b"refused,1,0\n", b""
-    directory = os.open("/", os.O_RDONLY)
-    yield "a directory", told(started(directory)), b"", UNREAD
-    os.close(directory)
-    yield "a closed input", told(started(None, ("sh", "-c", 'exec "$0" <&-', PROGRAM))), b"", UNREAD
+    yield "a directory", opened("/"), b"", UNREAD
+    yield "a file of which no read succeeds", opened(UNREADABLE), b"", UNREAD
+    yield "an input that may only be written", opened(os.devnull, os.O_WRONLY), b"", UNREAD
+    yield "a closed input", closed(REPORT), b"", UNREAD
     yield "a flow, and then a read that fails", broken_off(b"flow,1,0,1\n1,stop\n"), b"", UNREAD
     yield "a read that fails at once", broken_off(b""), b"", UNREAD
     with open("/dev/full", "wb") as full:
-        yield "an output that is full", whole(FLOW_A, full), None, UNWRITTEN
+        yield "an output that is full", whole(FLOW_A, stdout=full), None, UNWRITTEN
     if interrupted((sys.executable, "-c", PROBE), b"x")[1] == b"True\n":
-        yield "interrupted reads", interrupted((PROGRAM,), FLOW_A[:20], FLOW_A[20:]), REPORT_A, b""
+        yield "interrupted reads", interrupted((REPORT,), FLOW_A[:20], FLOW_A[20:]), REPORT_A, b""
+        yield "an interrupted read of no bytes", interrupted((REPORT,), b""), EMPTY, b""
     else:
         print("inputs: this system interrupts no read, so that was not tried")
 
 
+def of_maker(program):
+    """The same for a maker's program. Rust opens the null device where standard input is closed, so that is tried in C only."""
+    named = program, "/dev/stdin"
+    yield "flow A", whole(FLOW_A, named), SAMPLES_A, b""
+    yield "flow A in two halves", pieces(FLOW_A[:20], FLOW_A[20:], command=named), SAMPLES_A, b""
+    yield "flow A byte by byte", pieces(*bytewise(FLOW_A), command=named), SAMPLES_A, b""
+    yield "an empty file", whole(b"", named), EMPTY, b""
+    yield "a pipe without bytes", pieces(command=named), EMPTY, b""
+    yield "one byte 10", whole(b"\n", named), b"refused,13,1\n", b""
+    for name, file in ("a directory", "/"), ("no such file", "/no/such/file"), ("a file of which no read succeeds", UNREADABLE):
+        yield name, told(started(subprocess.DEVNULL, (program, file))), b"", UNREAD_FILE
+    yield "no file named", told(started(subprocess.DEVNULL, (program,))), b"", UNREAD_FILE
+    if program == C:
+        yield "a closed input", closed(*named), b"", UNREAD_FILE
+
+
 def main():
     tried = failed = 0
-    for name, did, out, err in cases():
-        tried += 1
-        if did != (0, out, err):
-            failed += 1
-            print(f"inputs: {name}: status, output and errors are {did}, expected {(0, out, err)}")
+    for program, cases in (REPORT, of_report()), *((maker, of_maker(maker)) for maker in MAKERS):
+        for name, did, out, err in cases:
+            tried += 1
+            ought = 2 if err == UNREAD_FILE else 0, out, err
+            if did != ought:
+                failed += 1
+                print(f"inputs: {program}, {name}: status, output and errors are {did}, expected {ought}")
     if not failed:
-        print(f"inputs: report answers {tried} inputs as expected")
+        print(f"inputs: report and the makers' programs answer {tried} inputs as expected")
     return 1 if failed else 0
 
 

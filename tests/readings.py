@@ -1,15 +1,15 @@
 #!/usr/bin/env python3
 """Flow texts, and what each is read as, for the program `test_readings`.
 
-The reader here is written from documents 01 ("The flow text", "Where a request is turned back") and 02 (T-02) alone and shares
-nothing with the crates. Without an argument the files of crates/test_readings are compared with what this script makes; with
---write they are written.
+The reader here is written from documents 01 ("The flow text", "Where a request is turned back") and 02 (T-02, T-08) alone and
+shares nothing with the crates. Without an argument the files of crates/test_readings are compared with what this script makes;
+with --write they are written.
 """
 import sys
 
 import stored
 
-# ---- an independent reader: the answer is the flow's own text, or the refusal
+# ---- an independent reader: the answer is the flow, written out as a text, or the refusal
 
 WORDS = {
     b"read": "AvPM", b"put": "vYN", b"copy": "uvN", b"set": "cvN", b"less": "uvPM",
@@ -27,14 +27,21 @@ def number(field, minus=False):
     return int(field)
 
 
+# the flow that no bytes at all mean: one tape, no outputs, one variable and the single instruction `stop`
+NO_BYTES = b"flow,1,0,1\n1,stop\n"
+
+
 def read(text):
+    """The text of the flow, made of its words and numbers alone, or the refusal. A number has one way of writing, so a legal flow has
+    exactly one text, which is the answer; only the flow of NO_BYTES has exactly two, that one and the empty one. A text is refused
+    by 1, 3, 5, 6, 7, 8, 13, 14 or 15: 2 and 4 no longer occur."""
     def refused(number, place):
         return b"refused,%d,%d\n" % (number, place)
 
     if len(text) > 4096:
         return refused(1, 0)
     if not text:
-        return refused(2, 0)
+        return read(NO_BYTES)
     if text[-1] != 10:
         return refused(3, 0)
     first, *rest = text[:-1].split(b"\n")
@@ -49,7 +56,7 @@ def read(text):
     if not (1 <= counts[0] <= 3 and counts[1] <= 3 and 1 <= counts[2] <= 4):
         return refused(5, 1)
     ranges = {"A": (1, counts[0]), "Y": (1, counts[1]), "u": (1, counts[2]), "v": (1, counts[2]), "c": (-1000, 1000)}
-    lost = []
+    lines, lost = [b"flow,%d,%d,%d\n" % tuple(counts)], []
     for i, line in enumerate(rest, 1):
         if i == 65:
             return refused(8, 66)
@@ -68,9 +75,10 @@ def read(text):
         if any(not ranges[f][0] <= n <= ranges[f][1] for f, n in values if f in ranges):
             return refused(5, i + 1)
         lost += [i + 1 for f, n in values if f not in ranges and not 1 <= n <= len(rest)]
+        lines.append(b",".join([b"%d" % i, word] + [b"%d" % n for _, n in values]) + b"\n")
     if not rest:
         return refused(8, 2)
-    return refused(7, lost[0]) if lost else text
+    return refused(7, lost[0]) if lost else b"".join(lines)
 
 
 # ---- the texts, by topic and name
@@ -83,10 +91,15 @@ def case(name, text):
     CASES[name] = text if isinstance(text, bytes) else text.encode()
 
 
+def answered(name, answer):
+    """The answer of a text is written by hand, from the words of document 02: a refusal and its place, or the text of a flow."""
+    assert read(CASES[name]) == (answer if answer.startswith("flow,") else f"refused,{answer}\n").encode(), name
+
+
 def turned_back(name, refusal, text):
-    """A text of the topic `kinds`; its refusal and place are written by hand, from the words of document 02."""
+    """A text of the topic `kinds`; its refusal and place are written by hand."""
     case(f"kinds/{name}", text)
-    assert read(CASES[f"kinds/{name}"]) == f"refused,{refusal}\n".encode(), name
+    answered(f"kinds/{name}", refusal)
 
 
 def flow(*lines, head="flow,2,1,2"):
@@ -128,7 +141,7 @@ case("legal/nine-kinds-greatest", flow(*(f"{i},{MOST[i % 9]}" for i in range(1, 
 case("legal/nine-kinds-least", flow(*(f"{i},{x}" for i, x in enumerate(LEAST, 1)), head="flow,1,1,1"))
 case("legal/nine-kinds-unlike", flow(*(f"{i},{x}" for i, x in enumerate(UNLIKE, 1)), head="flow,3,2,4"))
 
-# the whole text: refusals 1, 2, 3
+# the whole text: refusals 1 and 3; a text of no bytes is a flow
 case("whole/4096-bytes", long(4096))
 case("whole/4097-bytes", long(4097))
 case("whole/4096-bytes-no-end", long(4097)[:-1])
@@ -354,6 +367,57 @@ turned_back("line-66-word", "8,66", nops(65, "{},halt"))
 turned_back("line-66-count", "8,66", nops(65, "{},nop"))
 turned_back("line-66-number", "8,66", nops(65, "{},nop,01"))
 
+# no bytes at all are a flow, and nothing else that may look empty is; the answers are written by hand
+ALONE = "flow,1,0,1\n1,stop\n"
+for name, answer, text in [
+    # the flow itself, and other flows
+    ("alone", "flow,1,0,1\n1,stop\n", ALONE), ("alone-two-tapes", "flow,2,0,1\n1,stop\n", "flow,2,0,1\n1,stop\n"),
+    ("alone-one-output", "flow,1,1,1\n1,stop\n", "flow,1,1,1\n1,stop\n"),
+    ("alone-two-variables", "flow,1,0,2\n1,stop\n", "flow,1,0,2\n1,stop\n"),
+    # bytes, and the last of them is not 10
+    ("nul", "3,0", "\0"), ("cr", "3,0", "\r"), ("blank", "3,0", " "), ("comma", "3,0", ","), ("digit-0", "3,0", "0"),
+    ("byte-255", "3,0", b"\xff"), ("byte-order-mark", "3,0", b"\xef\xbb\xbf"), ("end-blank", "3,0", "\n "),
+    ("4096-nuls", "3,0", "\0" * 4096), ("flow", "3,0", "flow"), ("line-1-no-end", "3,0", "flow,1,0,1"),
+    ("alone-no-end", "3,0", ALONE[:-1]),
+    # line 1 is there, and its first field is not `flow`
+    ("2-ends", "13,1", "\n\n"), ("3-ends", "13,1", "\n\n\n"), ("cr-end", "13,1", "\r\n"), ("blank-end", "13,1", " \n"),
+    ("blank-tab-cr-end", "13,1", " \t\r\n"), ("nul-end", "13,1", "\0\n"), ("comma-end", "13,1", ",\n"),
+    ("number-stop", "13,1", "1,stop\n"), ("stop", "13,1", "stop\n"),
+    ("end-alone", "13,1", "\n" + ALONE), ("nul-alone", "13,1", "\0" + ALONE),
+    # line 1 with nothing after it, or with an empty line
+    ("flow-end", "14,1", "flow\n"), ("line-1-cr-end", "15,1", "flow,1,0,1\r\n"), ("line-1", "8,2", "flow,1,0,1\n"),
+    ("line-1-end", "13,2", "flow,1,0,1\n\n"),
+    # the flow, and then more; and too many bytes
+    ("alone-end", "13,3", ALONE + "\n"), ("alone-twice", "13,3", ALONE + ALONE),
+    ("4097-ends", "1,0", "\n" * 4097), ("4097-nuls", "1,0", "\0" * 4097),
+]:
+    case(f"empty/{name}", text)
+    answered(f"empty/{name}", answer)
+# no bytes, and other texts on the border that stand in other topics
+for name, answer in [("whole/no-bytes", "flow,1,0,1\n1,stop\n"), ("whole/end-alone", "13,1"), ("whole/4096-ends", "13,1"),
+                     ("whole/byte-alone", "3,0"), ("whole/no-end", "3,0"), ("lines/only-line-1", "8,2"),
+                     ("lines/empty-1", "13,1"), ("lines/empty-2", "13,2"), ("lines/empty-last", "13,5")]:
+    answered(name, answer)
+
+
+# ---- what holds of all texts
+
+def counted_flows():
+    """No text is there twice; no two texts are read as one flow, but for the two of NO_BYTES; and each refusal of a text occurs, 2 and
+    4 do not. The number of texts that are read as a flow, and of flows."""
+    assert len(set(CASES.values())) == len(CASES)
+    texts, refusals = {}, set()
+    for text in CASES.values():
+        answer = read(text)
+        if answer.startswith(b"refused,"):
+            refusals.add(int(answer.split(b",")[1]))
+        else:
+            texts.setdefault(answer, set()).add(text)
+    for answer, those in texts.items():
+        assert those == ({b"", answer} if answer == NO_BYTES else {answer}), those
+    assert NO_BYTES in texts and refusals == {1, 3, 5, 6, 7, 8, 13, 14, 15}, refusals
+    return sum(map(len, texts.values())), len(texts)
+
 
 # ---- the files of crates/test_readings
 
@@ -365,4 +429,6 @@ def files():
 
 
 if __name__ == "__main__":
-    sys.exit(stored.compare(["test_readings"], files(), f"{len(CASES)} texts agree"))
+    as_flow, flows = counted_flows()
+    agreed = f"{len(CASES)} texts agree; {as_flow} are read as {flows} flows, {len(CASES) - as_flow} are refused"
+    sys.exit(stored.compare(["test_readings"], files(), agreed))

@@ -56,12 +56,13 @@ def later(nops, text):
     return "".join(x + "\n" for x in [first] + [f"{i},nop,{i + 1}" for i in range(1, nops + 1)] + moved)
 
 
-# the pieces of document 01, and the flows of the folder flows/
+# the pieces of documents 01 and 02, and the flows of the folder flows/
 case("document", "chain", chain("2,0,2", "read,1,1", "read,2,2", "over,3,1", "less,1,2", "under,2,5"))
 case("document", "second-read", flow("1,0,1", "read,1,1,3,2", "read,1,1,3,3", "stop"))
 case("document", "under-first", flow("1,0,1", "under,1,5,2,2", "stop"))
 case("document", "less-itself", flow("1,0,1", "less,1,1,2,2", "stop"))
 case("document", "stop-alone", flow("1,0,1", "stop"))
+case("document", "no-bytes", "")
 for file in sorted((stored.ROOT / "flows").glob("*.flow")):
     case("document", file.stem, file.read_text())
 
@@ -156,9 +157,9 @@ case("shapes", "every-word", flow("2,1,2", "read,2,1,+,end", "put,1,1,+", "copy,
      "under,2,5,+,end", "nop,1", "end: stop"))
 
 # the texts that are turned back
-for name, text in [("no-bytes", ""), ("word", "flow,1,0,1\n1,halt\n"), ("count", "flow,1,0,1\n1,nop\n"),
-                   ("number", "flow,1,0,1\n1,nop,01\n"), ("turn", "flow,1,0,1\n2,stop\n"), ("range", "flow,1,0,1\n1,set,1001,1,1\n"),
-                   ("target", "flow,1,0,1\n1,nop,2\n"), ("only-line-1", "flow,1,0,1\n"), ("tapes", "flow,4,0,1\n1,stop\n")]:
+for name, text in [("word", "flow,1,0,1\n1,halt\n"), ("count", "flow,1,0,1\n1,nop\n"), ("number", "flow,1,0,1\n1,nop,01\n"),
+                   ("turn", "flow,1,0,1\n2,stop\n"), ("range", "flow,1,0,1\n1,set,1001,1,1\n"), ("target", "flow,1,0,1\n1,nop,2\n"),
+                   ("only-line-1", "flow,1,0,1\n"), ("tapes", "flow,4,0,1\n1,stop\n")]:
     case("turned-back", name, text)
 
 
@@ -339,7 +340,8 @@ def by_tapes(found):
 # ---- the files of the two crates
 
 def files():
-    """The data of a crate is a file of all its flows, each with its name before it and an empty line after it."""
+    """The data of a crate is a file of all its flows, each with its name before it and an empty line after it. So a text may have no
+    bytes, but no empty line."""
     made = dict.fromkeys(("test_reports/data/flows", "test_reports/stdout", "test_samples/data/flows", "test_samples/stdout"), "")
     flows = []
     for topic, texts in TOPICS.items():
@@ -347,10 +349,14 @@ def files():
             def add(crate, answer):
                 made[f"{crate}/data/flows"] += f"{topic}/{name}\n{text}\n"
                 made[f"{crate}/stdout"] += f"{topic}/{name}\n{answer}"
+            assert text == "".join(line + "\n" for line in text.split("\n") if line), name
             read = readings.read(text.encode()).decode()
-            if read != text:
+            refused = read.startswith("refused,")
+            assert refused == (topic == "turned-back"), name
+            if refused:
                 add("test_reports", read)
                 continue
+            assert searches.parse(text) == searches.parse(read), name
             flows.append(Found(text))
             add("test_reports", flows[-1].report())
             add("test_samples", flows[-1].samples())
@@ -360,6 +366,8 @@ def files():
 def main():
     made, flows = files()
     bounded, listed = sum(map(by_bounds, flows)), sum(map(by_tapes, flows))
+    # no bytes, and the other text of that flow: the one line of the report, and no samples
+    assert [(x.report(), x.samples()) for x in flows if x.text in ("", "flow,1,0,1\n1,stop\n")] == [("report,1,1\n", "")] * 2
     for name, text in TOPICS["limit"].items():
         assert searches.configurations(text, CELLS + 1)[0] == int(name[-4:]), name
     assert len(made["test_reports/data/flows"]) <= 131072, "the programs lend a row of that size"

@@ -1,6 +1,7 @@
-"""Three plain searches for the report of a flow, written from document 01 alone ("Runs", "Distances and configurations"). They
-share nothing with the crates, and nothing with each other but the reading of a legal text and, of the first and the third, the
-pattern. Each answers the steps of the first taking of every exit that is taken; the first and the third count configurations.
+"""Three plain searches for the report of a flow, written from documents 01 ("Runs", "Distances and configurations") and 02
+(T-08) alone. They share nothing with the crates, and nothing with each other but the reading of a legal text and, of the first
+and the third, the pattern. Each answers the steps of the first taking of every exit that is taken; the first and the third count
+configurations.
 
 `configurations`  breadth first over instruction, ended tapes and pattern; a read tries every whole number of an interval
 `bounds`          breadth first over instruction, ended tapes and what is known of the variables: bounds on their differences
@@ -12,6 +13,9 @@ import math
 
 def parse(text):
     """A legal text: tapes, variables, and the instructions by number, each its word and its fields."""
+    if not text:
+        # no bytes at all: one tape, no outputs, one variable and the single instruction `stop`
+        return 1, 1, {1: ("stop",)}
     first, *rest = text.splitlines()
     t, _, v = map(int, first.split(",")[1:])
     program = {}

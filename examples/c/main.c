@@ -1,4 +1,5 @@
-/* Prints the report of the flow in a file; then for each exit a sample, and whether the run on its tapes takes the exit. */
+/* Prints the report of the flow in a file; then for each exit a sample, and whether the run on its tapes takes the exit. A file without
+ * bytes is a flow, so one that cannot be read must not be taken for it. */
 #include <inttypes.h>
 #include <stdio.h>
 #include "tilsando.h"
@@ -41,11 +42,9 @@ static void try_exit(size_t n, uint64_t i, char exit) {
 
 int main(int argc, char **argv) {
     FILE *file = argc == 2 ? fopen(argv[1], "rb") : NULL;
-    if (!file)
-        return 2;
-    size_t n = fread(text, 1, sizeof text, file);
-    if (ferror(file))
-        return 2;
+    size_t n = file ? fread(text, 1, sizeof text, file) : 0;
+    if (!file || ferror(file))
+        return fputs("the flow cannot be read\n", stderr), 2;
     uint32_t why = tilsando_report(text, n, cells, CELLS, two, EACH, p, EACH, m, EACH, answer, TILSANDO_REPORT_SIZE);
     if (why)
         return printf("refused,%" PRIu32 ",%" PRIu32 "\n", TILSANDO_NUMBER(why), TILSANDO_PLACE(why)), 0;

@@ -1,5 +1,6 @@
 //! Prints the report of the flow in a file; then for each exit a sample, and whether the run on its tapes takes the exit.
-//! A row is a pointer and its length, and the values of an answer stand as include/tilsando.h says.
+//! A file without bytes is a flow, so one that cannot be read must not be taken for it. A row is a pointer and its length, and the values of
+//! an answer stand as include/tilsando.h says.
 const CELLS: usize = 4096;
 const EACH: usize = 64;
 type Row<T> = [T; CELLS];
@@ -43,7 +44,10 @@ fn try_exit(cells: &mut Cells, text: &[u8], i: usize, exit: char) -> String {
 }
 
 fn main() {
-    let text = std::fs::read(std::env::args().nth(1).expect("the name of a file")).expect("a flow");
+    let Some(Ok(text)) = std::env::args_os().nth(1).map(std::fs::read) else {
+        eprintln!("the flow cannot be read");
+        std::process::exit(2);
+    };
     let (mut cells, mut two, mut p, mut m, mut answer) = ([[0; 10]; CELLS], [0; EACH], [0; EACH], [0; EACH], [0; 2]);
     let why = unsafe { tilsando_report(text.as_ptr(), text.len(), &mut cells, CELLS, &mut two, EACH, &mut p, EACH, &mut m, EACH, &mut answer, 2) };
     if why != 0 {

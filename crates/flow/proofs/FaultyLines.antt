@@ -1,5 +1,5 @@
 -- Faulty lines with their refusals, computed by the definition: in a line 13 comes before 14, 14 before 15, 15 before 6 and 6 before 5
--- (document 01, "Where a request is turned back"; document 02, T-02).
+-- (document 01, "Where a request is turned back"; document 02, T-02). And texts that look empty: only one of no bytes is a flow (T-08).
 use mathlib.Core.Path.{_≡_, refl}
 use mathlib.Core.List.{List, [], _∷_, _++_, map}
 use mathlib.Core.Option.{Option, none, some, bind}
@@ -50,6 +50,15 @@ instructions =
     ∷ ("9,nop,1", 6) ∷ ("9,set,1001,1,1", 6) ∷ ("1,set,1001,1,1", 5)
     ∷ []
 
+-- texts with their refusals
+abbrev nearlyEmpty : List (String × Option (ℕ × ℕ))
+nearlyEmpty =
+    ("", none)
+    ∷ ("\n", some (13, 1)) ∷ ("\n\n", some (13, 1)) ∷ ("\r\n", some (13, 1)) ∷ (",\n", some (13, 1))
+    ∷ (" ", some (3, 0)) ∷ ("\n ", some (3, 0)) ∷ ("flow", some (3, 0)) ∷ ("flow,1,0,1", some (3, 0))
+    ∷ ("flow,1,0,1\n", some (8, 2)) ∷ ("flow,1,0,1\n\n", some (13, 2))
+    ∷ []
+
 -- what a line is refused by, and what it ought to be refused by, at a place
 abbrev found : (String → Option (ℕ × ℕ)) → List (String × ℕ) → List (Option (ℕ × ℕ))
 found judge = map (λ (l : String × ℕ). judge (l .0))
@@ -58,5 +67,9 @@ abbrev ought : ℕ → List (String × ℕ) → List (Option (ℕ × ℕ))
 ought place = map (λ (l : String × ℕ). some (l .1, place))
 
 pub faulty-lines : (found asHead heads ≡ ought 1 heads) × (found asInstruction instructions ≡ ought 2 instructions)
-unfolding Read.readFlow Read.readRest Read.readHead Read.headOf Read.readLines Read.readLine Read.numerals bind Read.all Words.firstNamed Split.lines Split.split Split.parts Split.lead Split.sameWord Number.natural Number.numeral Number.negative Number.digitsAfter
+unfolding Read.readFlow Read.readBytes Read.readRest Read.readHead Read.headOf Read.readLines Read.readLine Read.numerals bind Read.all Words.firstNamed Split.lines Split.split Split.parts Split.lead Split.sameWord Number.natural Number.numeral Number.negative Number.digitsAfter
 faulty-lines = (refl, refl)
+
+pub nearly-empty : map (λ (t : String × Option (ℕ × ℕ)). refusal (readFlow (bytes (t .0)))) nearlyEmpty ≡ map (λ (t : String × Option (ℕ × ℕ)). t .1) nearlyEmpty
+unfolding Read.readFlow Read.readBytes Read.readRest Read.readHead Read.headOf Read.readLines Read.readLine Read.numerals bind Read.all Words.firstNamed Split.lines Split.split Split.parts Split.lead Split.sameWord Number.natural Number.numeral Number.negative Number.digitsAfter
+nearly-empty = refl

@@ -14,11 +14,11 @@ use Rattle.text.specs.Split.{lines, split}
 use Rattle.text.proofs.Parts.{lines-at}
 use Rattle.text.specs.inner.Divided.{until}
 use Rattle.flow.specs.Limits.{maxBytes}
-use Rattle.flow.specs.Read.{Checked, ok, fault, check, after, unless, readHead, readFlow, isNamed, all, readLines, lostTarget, readRest}
+use Rattle.flow.specs.Read.{Checked, ok, fault, check, after, unless, readHead, isNamed, all, readLines, lostTarget, readRest, readBytes, onlyStop, readFlow}
 use Rattle.flow.specs.Code.{rowOf, rowsOf, readingOf}
 use Rattle.flow.specs.inner.Reader.{clamped, keptRows, judged, finished, HeadFits}
 use Rattle.flow.specs.declared.Refusal.{Refusal}
-use Rattle.flow.specs.declared.Refusal.the-variants.{TooLong, NoBytes, NoLastEnd, NoInstruction, NoSuchTarget}
+use Rattle.flow.specs.declared.Refusal.the-variants.{TooLong, NoLastEnd, NoInstruction, NoSuchTarget}
 use Rattle.flow.specs.declared.Head.{Head}
 use Rattle.flow.specs.declared.Instruction.{Instruction as Row}
 use Rattle.flow.specs.declared.Answer.the-variants.{Legal}
@@ -113,37 +113,40 @@ until-at c (x ∷ xs) (suc i) l e = go (eqb x c) (until-at c xs i (omega arith) 
     go true h = omega arith
     go false h = omega arith
 
+pub no-bytes : (text : List ℕ) → length text ≡ 0 → readFlow text ≡ ok onlyStop
+unfolding readFlow
+no-bytes [] e = refl
+no-bytes (b ∷ bs) e = absurd (omega arith)
+
+pub some-bytes : (text : List ℕ) → 1 ≤ length text → readFlow text ≡ readBytes text
+unfolding readFlow
+some-bytes [] l = absurd (omega arith)
+some-bytes (b ∷ bs) l = refl
+
 module _ (text : List ℕ) where
-  pub text-long : maxBytes < length text → readingOf (fault TooLong) ≡ readingOf (readFlow text)
-  unfolding readFlow
+  pub text-long : maxBytes < length text → readingOf (fault TooLong) ≡ readingOf (readBytes text)
+  unfolding readBytes
   text-long l = rw (lt-leb (length text) maxBytes l)
 
   module _ (size : length text ≤ maxBytes) where
-    pub text-empty : length text ≡ 0 → readingOf (fault NoBytes) ≡ readingOf (readFlow text)
-    unfolding readFlow
-    text-empty e = rw (le-leb (length text) maxBytes size, lt-leb 1 (length text) (omega arith))
+    pub text-unended : (getD text (length text - 1) 0 ≡ 10 → ⊥) → readingOf (fault NoLastEnd) ≡ readingOf (readBytes text)
+    unfolding readBytes
+    text-unended e = rw (le-leb (length text) maxBytes size, ne-eqb (getD text (length text - 1) 0) 10 e)
 
-    module _ (some : length text ≡ 0 → ⊥) where
-      pub text-unended : (getD text (length text - 1) 0 ≡ 10 → ⊥) → readingOf (fault NoLastEnd) ≡ readingOf (readFlow text)
-      unfolding readFlow
-      text-unended e =
-          rw (le-leb (length text) maxBytes size, le-leb 1 (length text) (omega (arith, some)), ne-eqb (getD text (length text - 1) 0) 10 e)
+    module _ (some : 1 ≤ length text) (last : getD text (length text - 1) 0 ≡ 10) (end : ℕ) (ends : end ≡ 0 + until 10 (drop 0 text)) where
+      pub line-ends : end + 1 ≤ length text
+      line-ends = omega (arith, ends, until-at 10 text (length text - 1) (omega arith) last)
 
-      module _ (last : getD text (length text - 1) 0 ≡ 10) (end : ℕ) (ends : end ≡ 0 + until 10 (drop 0 text)) where
-        pub line-ends : end + 1 ≤ length text
-        line-ends = omega (arith, ends, until-at 10 text (length text - 1) (omega (arith, some)) last, some)
+      first-line : lines text ≡ take end text ∷ lines (drop (end + 1) text)
+      first-line = let from-0 : end - 0 ≡ end = omega arith in rw from-0 at (lines-at text 0 end ends (omega (arith, line-ends)))
 
-        first-line : lines text ≡ take end text ∷ lines (drop (end + 1) text)
-        first-line = let from-0 : end - 0 ≡ end = omega arith in rw from-0 at (lines-at text 0 end ends (omega (arith, line-ends)))
+      by-lines : readBytes text ≡ after (readHead (split (take end text))) (λ h. readRest h (lines (drop (end + 1) text)))
+      unfolding readBytes
+      by-lines = rw (le-leb (length text) maxBytes size, eq-eqb (getD text (length text - 1) 0) 10 last, first-line)
 
-        by-lines : readFlow text ≡ after (readHead (split (take end text))) (λ h. readRest h (lines (drop (end + 1) text)))
-        unfolding readFlow
-        by-lines =
-            rw (le-leb (length text) maxBytes size, le-leb 1 (length text) (omega (arith, some)), eq-eqb (getD text (length text - 1) 0) 10 last, first-line)
+      pub text-rest : (h : Head) → ok h ≡ readHead (split (take end text))
+          → readingOf (readRest h (lines (drop (end + 1) text))) ≡ readingOf (readBytes text)
+      text-rest h e = rw (by-lines, ← e)
 
-        pub text-rest : (h : Head) → ok h ≡ readHead (split (take end text))
-            → readingOf (readRest h (lines (drop (end + 1) text))) ≡ readingOf (readFlow text)
-        text-rest h e = rw (by-lines, ← e)
-
-        pub text-fault : (r : Refusal) → fault r ≡ readHead (split (take end text)) → readingOf (fault r) ≡ readingOf (readFlow text)
-        text-fault r e = rw (by-lines, ← e)
+      pub text-fault : (r : Refusal) → fault r ≡ readHead (split (take end text)) → readingOf (fault r) ≡ readingOf (readBytes text)
+      text-fault r e = rw (by-lines, ← e)

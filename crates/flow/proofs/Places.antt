@@ -11,7 +11,7 @@ use borrow.Author.Tests.{leb-true}
 use lib.ListN.{length}
 use Rattle.model.specs.Language.{Instruction, fields}
 use Rattle.flow.specs.Limits.{maxInstructions}
-use Rattle.flow.specs.Read.{Checked, ok, fault, check, given, after, unless, isNamed, all, headOf, readHead, readLine, readLines, lostTarget, readRest, readFlow}
+use Rattle.flow.specs.Read.{Checked, ok, fault, check, given, after, unless, isNamed, all, headOf, readHead, readLine, readLines, lostTarget, readRest, readBytes, readFlow}
 use Rattle.flow.specs.Refusals.{placeOf}
 use Rattle.flow.specs.declared.Head.{Head}
 use Rattle.flow.specs.declared.Refusal.{Refusal}
@@ -68,7 +68,14 @@ rest-within h ls =
     let near : 2 ≤ maxInstructions + 2 = omega arith in let few : 2 + length xs ≤ maxInstructions + 2 = omega (arith, at-most-64 h ls xs read) in
     search (check-within, targets-within))
 
-pub read-place : (text : List ℕ) (why : Refusal) → readFlow text ≡ fault why → placeOf why ≤ maxInstructions + 2
+bytes-within : (text : List ℕ) → Within (readBytes text)
+unfolding readBytes
+bytes-within text = let near : 0 ≤ maxInstructions + 2 = omega arith in search (check-within, after-within, head-within, rest-within) depth 20
+
+text-within : (text : List ℕ) → Within (readFlow text)
 unfolding readFlow
-read-place text why e = let near : 0 ≤ maxInstructions + 2 = omega arith in
-    subst Within e (search (check-within, after-within, head-within, rest-within) depth 20)
+text-within [] = tt
+text-within (b ∷ bs) = bytes-within (b ∷ bs)
+
+pub read-place : (text : List ℕ) (why : Refusal) → readFlow text ≡ fault why → placeOf why ≤ maxInstructions + 2
+read-place text why e = subst Within e (text-within text)

@@ -38,7 +38,7 @@ row k zs = record { kind = k; first = at zs 0; second = at zs 1; third = at zs 2
 abbrev pub rowOf : Instruction → Row
 rowOf x = row (kind x) (numbers x)
 
--- a flow as the code holds it; a faulty text comes with the empty one
+-- a flow as the code holds it; a faulty text comes with one that has nothing in it
 unfoldable pub rowsOf : Flow → Rows
 rowsOf flow = record {
   tapes = flow .tapes;

@@ -10,12 +10,13 @@ pub mod lent; // lent.rt: an instruction fetched from a lent slice, and stored t
 
 ghost use mathlib.Core.Path.{_≡_};
 ghost use Prim.Native.Nat.{_≤_};
-ghost use lib.ListN.{length, drop};
+ghost use lib.ListN.{length, drop, replicate};
+ghost use Rattle.model.specs.Language.{stop};
 ghost use Rattle.flow.specs.Limits.{maxInstructions};
 ghost use Rattle.flow.specs.Refusals.{numberOf, placeOf};
 ghost use Rattle.text.specs.Split.{lines};
-ghost use Rattle.flow.specs.Read.{headOf, readRest, readFlow, fault};
-ghost use Rattle.flow.specs.Code.{readingOf, rowsOf, noFlow};
+ghost use Rattle.flow.specs.Read.{headOf, readRest, readBytes, onlyStop, readFlow, fault};
+ghost use Rattle.flow.specs.Code.{readingOf, rowOf, rowsOf, noFlow};
 ghost use Rattle.flow.specs.inner.Reader.{headIn, finished, HeadFits};
 use lines::Targets;
 
@@ -72,10 +73,9 @@ pub struct Flow {
     pub instructions: [Instruction; Flow::MAX_INSTRUCTIONS],
 }
 
-// Why a request is turned back; the number in a case is that of the line. The first eleven cases concern the text of a flow.
+// Why a request is turned back; the number in a case is that of the line. The first ten cases concern the text of a flow.
 pub enum Refusal {
     TooLong,
-    NoBytes,
     NoLastEnd,
     UnknownWord(usize),
     WrongCount(usize),
@@ -97,7 +97,7 @@ pub enum Answer {
     Refused(Refusal),
 }
 
-// What a text is read as: the flow, or the refusal and an empty flow.
+// What a text is read as: the flow, or the refusal and a flow with nothing in it.
 pub struct Reading {
     pub answer: Answer,
     pub flow: Flow,
@@ -152,19 +152,30 @@ impl Flow {
         }
     }
 
+    // No outputs, and so many instructions, each of them `stop`.
+    fn stops(tapes: u8, variables: u8, count: usize) -> Self
+        ensures { λ r. ⌜ r ≡ record { tapes = tapes; outputs = 0; variables = variables; count = count; instructions = replicate maxInstructions (rowOf stop) } ⌝ }
+    {
+        let head = Head {
+            tapes,
+            outputs: 0,
+            variables,
+        };
+        Flow::new(head, count, [Instruction::stop(); Flow::MAX_INSTRUCTIONS])
+    }
+
+    // One tape, no outputs, one variable and the single instruction `stop`.
+    fn only_stop() -> Self
+        ensures { λ r. ⌜ r ≡ rowsOf onlyStop ⌝ }
+    {
+        Flow::stops(1, 1, 1)
+    }
+
     // A flow with nothing in it.
-    fn empty() -> Self
+    fn none() -> Self
         ensures { λ r. ⌜ r ≡ rowsOf noFlow ⌝ }
     {
-        Flow::new(
-            Head {
-                tapes: 0,
-                outputs: 0,
-                variables: 0,
-            },
-            0,
-            [Instruction::stop(); Flow::MAX_INSTRUCTIONS],
-        )
+        Flow::stops(0, 0, 0)
     }
 }
 
@@ -175,7 +186,6 @@ impl Refusal {
     {
         match self {
             Refusal::TooLong => 1,
-            Refusal::NoBytes => 2,
             Refusal::NoLastEnd => 3,
             Refusal::UnknownWord(_) => 13,
             Refusal::WrongCount(_) => 14,
@@ -198,7 +208,6 @@ impl Refusal {
     {
         match self {
             Refusal::TooLong => 0,
-            Refusal::NoBytes => 0,
             Refusal::NoLastEnd => 0,
             Refusal::UnknownWord(line) => line,
             Refusal::WrongCount(line) => line,
@@ -220,11 +229,22 @@ impl Refusal {
 pub fn read(text: &[u8]) -> Reading
     ensures { λ r. ⌜ r ≡ readingOf (readFlow (now (text .entry))) ⌝ }
 {
+    if text.len() == 0 {
+        return Reading {
+            answer: Answer::Legal,
+            flow: Flow::only_stop(),
+        };
+    }
+    read_bytes(text)
+}
+
+// A text with bytes in it.
+fn read_bytes(text: &[u8]) -> Reading
+    requires { ⌜ 1 ≤ length (now text) ⌝ }
+    ensures { λ r. ⌜ r ≡ readingOf (readBytes (now (text .entry))) ⌝ }
+{
     if Flow::MAX_BYTES < text.len() {
         return refused(Refusal::TooLong);
-    }
-    if text.len() == 0 {
-        return refused(Refusal::NoBytes);
     }
     if text[text.len() - 1] != 10 {
         return refused(Refusal::NoLastEnd);
@@ -243,7 +263,7 @@ fn refused(r: Refusal) -> Reading
 {
     Reading {
         answer: Answer::Refused(r),
-        flow: Flow::empty(),
+        flow: Flow::none(),
     }
 }
 

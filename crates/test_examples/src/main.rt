@@ -1,4 +1,4 @@
-// The pieces of document 01, and the merge of flows/, run and printed. Of a run: the end, the steps and the puts, then how often each
+// The pieces of document 01, the text of no bytes (document 02, T-08), and the merge of flows/, run and printed. Of a run: the end, the steps and the puts, then how often each
 // exit of the first instructions was taken. Of a flow: its report. The stored output has what the document says.
 use tape_maker::Cell;
 use tape_maker::RunAnswer;
@@ -90,6 +90,19 @@ fn reports() {
     test_show::report_of(b"flow,1,0,1\n1,less,1,1,2,2\n2,stop\n");
 }
 
+// A text of no bytes: runs with the limit 0 and on a record that is not read, and its report with 4,096 cells, with one and with none.
+fn no_bytes() {
+    let mut numbers = [0u8; 1];
+    let mut values = [0i32; 1];
+    let mut one = [[0u32; Cell::WORDS]; 1];
+    let mut no = [[0u32; Cell::WORDS]; 0];
+    one_tape(b"", 0, &[], &mut numbers, &mut values);
+    one_tape(b"", 1000000, &[7], &mut numbers, &mut values);
+    test_show::report_of(b"");
+    test_show::report(tape_maker::report(b"", &mut one));
+    test_show::report(tape_maker::report(b"", &mut no));
+}
+
 fn main() {
     flow_a(1000000, &[]);
     flow_a(1000000, &[5]);
@@ -115,6 +128,7 @@ fn main() {
         &mut values,
     );
     one_tape(b"flow,1,0,1\n1,stop\n", 0, &[], &mut numbers, &mut values);
+    no_bytes();
     reports();
     cells();
 }

@@ -1,5 +1,6 @@
 // Prints what each flow text of data/ is read as, in the order of the names in data/index: the name, and then the refusal, or
-// the flow, written back from its rows. A flow has exactly one text, so the lines written back have to be those of the text.
+// the flow, written back from its rows. A text with bytes in it that is read is the only one of its flow with bytes, so the lines written
+// back have to be its own.
 // The texts, and the answers in stdout, are made by tests/readings.py.
 use flow::Answer;
 use flow::Flow;
@@ -8,6 +9,7 @@ use flow::Kind;
 use flow::Refusal;
 use flow::lent;
 use flow::words;
+use input::Input;
 use libc::STDOUT_FILENO;
 
 fn print(bytes: &[u8]) {
@@ -90,22 +92,26 @@ fn print_flow(f: Flow) {
     }
 }
 
-// What the text of a file is read as; a byte past the limit is enough to see that there are too many.
-fn print_reading(name: &[u8]) {
-    let mut text = [0u8; Flow::MAX_BYTES + 1];
-    print(name);
-    let fd = os::open_read(name);
-    if fd < 0 {
-        print(b" is missing\n");
-        return;
-    }
-    let n = io::read_full(fd, &mut text);
-    libc::close(fd);
-    let reading = flow::read(&text[..n]);
+// What a text is read as.
+fn print_reading(text: &[u8]) {
+    let reading = flow::read(text);
     let answer = reading.answer;
     match answer {
         Answer::Legal => print_flow(reading.flow),
         Answer::Refused(r) => print_refusal(r),
+    }
+}
+
+// What the text of a file is read as; a byte past the limit is enough to see that there are too many.
+fn print_file(name: &[u8]) {
+    let mut text = [0u8; Flow::MAX_BYTES + 1];
+    print(name);
+    let fd = os::open_read(name);
+    let input = input::read_all(fd, &mut text);
+    libc::close(fd);
+    match input {
+        Input::Bytes(n) => print_reading(&text[0..n]),
+        Input::Failed => print(b" cannot be read\n"),
     }
 }
 
@@ -114,7 +120,7 @@ fn print_readings(list: &[u8]) {
     let mut at = 0;
     while at < list.len() {
         let end = text::end_of(list, at, b'\n');
-        print_reading(&list[at..end]);
+        print_file(&list[at..end]);
         at = end + 1;
     }
 }

@@ -55,7 +55,7 @@ pub fn run(rng: &mut Rng, text: &[u8], case: &RunCase) -> Checked {
     #[rustfmt::skip]
     let returned = unsafe {
         ffi::tilsando_run(
-            bytes.ptr(), bytes.len(), case.limit, records.ptr(), records.len(), lengths.ptr(), lengths.len(),
+            bytes.text(rng), bytes.len(), case.limit, records.ptr(), records.len(), lengths.ptr(), lengths.len(),
             numbers.ptr(), numbers.len(), values.ptr(), values.len(),
             p.ptr(), p.len(), m.ptr(), m.len(), answer.ptr(), answer.len(),
         )
@@ -106,7 +106,7 @@ pub fn report(rng: &mut Rng, text: &[u8], known: &Known, cells: &mut Lent<Words>
     #[rustfmt::skip]
     let returned = unsafe {
         ffi::tilsando_report(
-            bytes.ptr(), bytes.len(), cells.ptr(), cells.len(),
+            bytes.text(rng), bytes.len(), cells.ptr(), cells.len(),
             two.ptr(), two.len(), p.ptr(), p.len(), m.ptr(), m.len(), answer.ptr(), answer.len(),
         )
     };
@@ -144,7 +144,7 @@ pub fn sample(rng: &mut Rng, text: &[u8], known: &Known, cells: &mut Lent<Words>
     #[rustfmt::skip]
     let returned = unsafe {
         ffi::tilsando_sample(
-            bytes.ptr(), bytes.len(), case.instruction, exit, cells.ptr(), cells.len(),
+            bytes.text(rng), bytes.len(), case.instruction, exit, cells.ptr(), cells.len(),
             row.ptr(), row.len(), answer.ptr(), answer.len(),
         )
     };

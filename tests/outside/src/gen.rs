@@ -305,6 +305,9 @@ const WORDS: [&str; 24] = [
     "stop\r", "stop\0", "stopp", "sto", "const", "\u{e9}", "1",
 ];
 
+/// Texts that could be taken for the empty one, beside the lone byte 10.
+const NEARLY: [&str; 11] = ["\n\n", "\r\n", " \n", ",\n", "\0\n", "\0", "\r", " ", ",", "f", "flow,1,0,1\n"];
+
 const BYTES: &[u8] = b"0123456789,,,-\n\n+ \t\r\0aflowreadputcopysetlessoverundernopstop\xff\x80F.;";
 
 fn byte_edit(rng: &mut Rng, text: &mut Vec<u8>) {
@@ -503,8 +506,14 @@ fn long_text(rng: &mut Rng, mut text: Vec<u8>) -> Vec<u8> {
     text
 }
 
-/// A text that is damaged once or more; now and then it is legal all the same.
+/// A text that is damaged once or more, now and then legal all the same; or the empty text, which is legal (document 02, T-08).
 pub fn damaged(rng: &mut Rng) -> Vec<u8> {
+    match rng.below(100) {
+        0..=4 => return Vec::new(),
+        5 => return vec![10],
+        6..=8 => return rng.pick(&NEARLY).as_bytes().to_vec(),
+        _ => {}
+    }
     if rng.below(6) == 0 {
         return at_borders(rng);
     }
@@ -519,7 +528,6 @@ pub fn damaged(rng: &mut Rng) -> Vec<u8> {
             text.pop();
             return text;
         }
-        3 if rng.percent(40) => return Vec::new(),
         3 => return (0..rng.below(20)).map(|_| *rng.pick(BYTES)).collect(),
         4 => {
             let end = rng.below(text.len() + 1);

@@ -3,6 +3,7 @@
 use crate::ffi::Words;
 use crate::rng::Rng;
 use std::fmt::Debug;
+use std::ptr::NonNull;
 
 const GUARD: usize = 4;
 
@@ -110,6 +111,16 @@ impl<T: Cell> Lent<T> {
     /// What changed outside the row.
     pub fn outside(&self, name: &str) -> Option<String> {
         (!self.guards()).then(|| format!("{name}: cells outside the row of {} are changed", self.len()))
+    }
+}
+
+impl Lent<u8> {
+    /// The pointer of a text. For an empty text it is not read, so in half of the cases it points to no memory: to read it crashes.
+    pub fn text(&mut self, rng: &mut Rng) -> *const u8 {
+        if self.len() == 0 && rng.percent(50) {
+            return NonNull::dangling().as_ptr();
+        }
+        self.ptr()
     }
 }
 

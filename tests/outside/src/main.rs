@@ -2,9 +2,10 @@
 //!
 //!     outside [SEED [ROUNDS]]
 //!
-//! The implementation (documents/) is written from documents 01, 02 (T-02) and 000. Some of the texts go to the program `report` too, if
-//! its path is in REPORT. Prints the seed, the cases by sort and outcome, and `N cases, M differences`. A difference is printed with its
-//! case in full, and the status is then 1; it is 1 too if an outcome that documents 01 and 02 know was never met.
+//! The implementation (documents/) is written from documents 01, 02 (T-02, T-08) and 000. Some of the texts go to the program `report` too,
+//! if its path is in REPORT. Prints the seed, the cases by sort and outcome, those of the empty text again by themselves, and `N cases, M
+//! differences`. A difference is printed with its case in full, and the status is then 1; it is 1 too if an outcome that documents 01 and
+//! 02 know was never met.
 
 mod cases;
 mod documents;
@@ -26,7 +27,7 @@ use std::process::ExitCode;
 const MOST: usize = 65_536;
 
 /// The refusals of the text that must be met, by documents 01 and 02.
-const OF_TEXT: [u32; 10] = [1, 2, 3, 5, 6, 7, 8, 13, 14, 15];
+const OF_TEXT: [u32; 9] = [1, 3, 5, 6, 7, 8, 13, 14, 15];
 
 /// The outcomes that must be met, beside the refusals of the text.
 const OUTCOMES: [(&str, &[&str]); 5] = [
@@ -37,10 +38,19 @@ const OUTCOMES: [(&str, &[&str]); 5] = [
     ("tape", &["a part", "the empty part"]),
 ];
 
-/// Cases and differences; the largest numbers met.
+/// The outcomes that must be met with the empty text, by document 02 (T-08).
+const OF_EMPTY: [(&str, &[&str]); 4] =
+    [("run", &["stopped", "refused 12"]), ("report", &["given", "refused 9"]), ("program", &["given"]), ("sample", &["refused 11"])];
+
+/// Cases by sort and outcome.
+type Counts = BTreeMap<(&'static str, String), usize>;
+
+/// Cases, those of the empty text among them, and differences; the largest numbers met.
+#[derive(Default)]
 struct Tally {
     seed: u64,
-    by_outcome: BTreeMap<(&'static str, String), usize>,
+    by_outcome: Counts,
+    of_empty: Counts,
     confirmed: usize,
     past: usize,
     configurations: usize,
@@ -50,6 +60,10 @@ struct Tally {
 
 impl Tally {
     fn note(&mut self, sort: &'static str, checked: Checked, text: &[u8], case: &dyn Debug) {
+        // A tape is asked for without a text.
+        if text.is_empty() && sort != "tape" {
+            *self.of_empty.entry((sort, checked.outcome.clone())).or_default() += 1;
+        }
         *self.by_outcome.entry((sort, checked.outcome)).or_default() += 1;
         if !checked.faults.is_empty() {
             self.differ(sort, &checked.faults, text, case);
@@ -86,6 +100,13 @@ impl Tally {
                 }
             }
         }
+        for (sort, outcomes) in OF_EMPTY.into_iter().filter(|(sort, _)| tried(sort)) {
+            for outcome in outcomes {
+                if !self.of_empty.contains_key(&(sort, outcome.to_string())) {
+                    missing.push(format!("{sort} of the empty text: {outcome}"));
+                }
+            }
+        }
         if self.past == 0 {
             missing.push("cells past 65,536 after a refusal".to_string());
         }
@@ -94,6 +115,19 @@ impl Tally {
 
     fn cases(&self) -> usize {
         self.by_outcome.values().sum()
+    }
+
+    /// Prints the counts and the largest numbers.
+    fn print(&self) {
+        for ((sort, outcome), count) in &self.by_outcome {
+            println!("{count:7} {sort}: {outcome}");
+        }
+        for ((sort, outcome), count) in &self.of_empty {
+            println!("{count:7} {sort} of the empty text: {outcome}");
+        }
+        println!("searches of our own confirmed by trial of numbers: {}", self.confirmed);
+        println!("refusals with more than 65,536 cells: {}", self.past);
+        println!("generated flows have up to {} configurations, distances up to {}", self.configurations, self.distance);
     }
 }
 
@@ -165,11 +199,13 @@ fn sample_case(rng: &mut Rng, known: &Known) -> SampleCase {
     };
     let count = flow.instructions.len();
     let two: Vec<usize> = (1..=count).filter(|i| flow.has_exits(*i as u64)).collect();
+    // Numbers that no instruction has.
+    let none = [0, count as u64 + 1, 65, 1 << 32, (1 << 32) + 1, u64::MAX];
     let instruction = match rng.below(20) {
-        0 => *rng.pick(&[0, count as u64 + 1, 65, 1 << 32, (1 << 32) + 1, u64::MAX]),
-        1 => 1 + rng.below(count) as u64,
-        _ if !two.is_empty() => *rng.pick(&two) as u64,
-        _ => 1,
+        0 => *rng.pick(&none),
+        2.. if !two.is_empty() => *rng.pick(&two) as u64,
+        2..=10 => *rng.pick(&none),
+        _ => 1 + rng.below(count) as u64,
     };
     let column = census.as_ref().filter(|_| flow.has_exits(instruction)).map(|c| if exit { &c.p } else { &c.m });
     let d = column.and_then(|distances| distances[instruction as usize - 1]);
@@ -281,7 +317,7 @@ fn main() -> ExitCode {
     pieces::check();
     assert_eq!(search::census(&gen::edge(0), MOST).map(|c| c.configurations), Ok(MOST - 1));
     let rng = &mut Rng::new(seed);
-    let mut tally = Tally { seed, by_outcome: BTreeMap::new(), confirmed: 0, past: 0, configurations: 0, distance: 0, differences: 0 };
+    let mut tally = Tally { seed, ..Tally::default() };
     edges(rng, &mut tally);
     let left = &mut Vec::new();
     for round in 0..rounds {
@@ -300,10 +336,14 @@ fn main() -> ExitCode {
             tally.note("program", program::report(program, &text), &text, &"");
         }
         let text = gen::damaged(rng);
+        let read = reader::read(&text).ok();
+        if let Some(flow) = &read {
+            pieces::written_back(&text, flow);
+        }
         if let (0, Some(program)) = (round % 8, &program) {
             tally.note("program", program::report(program, &text), &text, &"");
         }
-        let case = run_case(rng, reader::read(&text).ok().as_ref());
+        let case = run_case(rng, read.as_ref());
         let checked = cases::run(rng, &text, &case);
         tally.note("run", checked, &text, &case);
         if round % 8 == 0 {
@@ -313,12 +353,7 @@ fn main() -> ExitCode {
         let checked = cases::tape(rng, &case);
         tally.note("tape", checked, b"", &case);
     }
-    for ((sort, outcome), count) in &tally.by_outcome {
-        println!("{count:7} {sort}: {outcome}");
-    }
-    println!("searches of our own confirmed by trial of numbers: {}", tally.confirmed);
-    println!("refusals with more than 65,536 cells: {}", tally.past);
-    println!("generated flows have up to {} configurations, distances up to {}", tally.configurations, tally.distance);
+    tally.print();
     let missing = tally.missing(|sort| sort != "program" || program.is_some());
     for outcome in &missing {
         println!("never met: {outcome}");

@@ -1,4 +1,4 @@
-//! The program `report`: what it prints for a text, held to the lines of document 01.
+//! The program `report`: what it prints for a text, held to the lines of documents 01 and 02.
 
 use crate::cases::Checked;
 use crate::documents::report;

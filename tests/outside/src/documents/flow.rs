@@ -1,6 +1,7 @@
 //! A flow, as document 01 describes it ("The flow text"), and a refusal.
 
-/// The number and the place of document 01's table "Where a request is turned back", with the numbers that document 02 (T-02) adds.
+/// The number and the place of document 01's table "Where a request is turned back", as document 02 (T-02, T-08) changes it: with 13, 14
+/// and 15, and without 4 and 2.
 #[derive(Clone, Copy, Debug, PartialEq, Eq)]
 pub struct Refusal {
     pub number: u32,
@@ -71,7 +72,8 @@ impl Flow {
         (1..=self.instructions.len() as u64).contains(&instruction) && self.instructions[instruction as usize - 1].exits().is_some()
     }
 
-    /// The flow text of document 01, "The flow text".
+    /// The text of a legal flow by document 01, "The flow text". It is the only text of the flow, but for one flow: that of one tape, no
+    /// outputs, one variable and the single instruction `stop` has the empty text too (document 02, T-08), which is not given here.
     pub fn text(&self) -> String {
         let mut text = format!("flow,{},{},{}\n", self.tapes, self.outputs, self.variables);
         for (number, instruction) in (1..).zip(&self.instructions) {

@@ -1,11 +1,12 @@
-//! The test pieces of document 01 ("Test pieces"), case `-0` as document 02 (T-02) has it, and flow A ("The report").
+//! The test pieces of document 01 ("Test pieces"), case `-0` as document 02 (T-02) has it, flow A ("The report"), and the empty text of
+//! document 02 (T-08).
 
-use super::flow::{Flow, Refusal};
+use super::flow::{Flow, Instruction, Refusal};
 use super::interpreter::{run, End, Ran};
 use super::reader::read;
 use super::report::lines;
 use super::sample::{faults, part, wanted};
-use super::search::{by_numbers, census};
+use super::search::{by_numbers, census, Census};
 
 const FLOW_A: &str = "flow,1,0,1\n1,read,1,1,2,3\n2,over,5,1,1,3\n3,stop\n";
 const REPORT_A: &str = "report,3,19\n1,p,1\n1,m,1\n2,p,2\n2,m,2\n";
@@ -15,8 +16,19 @@ const SECOND: &str = "flow,1,0,1\n1,read,1,1,3,2\n2,read,1,1,3,3\n3,stop\n";
 const UNDER: &str = "flow,1,0,1\n1,under,1,5,2,2\n2,stop\n";
 const LESS: &str = "flow,1,0,1\n1,less,1,1,2,2\n2,stop\n";
 
+/// The other text of the flow that the empty text means.
+const STOP: &str = "flow,1,0,1\n1,stop\n";
+
+/// Asserts of a text that is read as this flow that it is the flow's text(), or is empty, the flow's text() being `STOP`.
+pub fn written_back(text: &[u8], flow: &Flow) {
+    let own = if text.is_empty() { STOP.as_bytes() } else { text };
+    assert_eq!(flow.text(), String::from_utf8_lossy(own), "a text that is read is written back");
+}
+
 fn flow(text: &str) -> Flow {
-    read(text.as_bytes()).expect("a legal text")
+    let flow = read(text.as_bytes()).expect("a legal text");
+    written_back(text.as_bytes(), &flow);
+    flow
 }
 
 fn refused(text: &str) -> (u32, u64) {
@@ -47,7 +59,7 @@ fn runs() {
     let ran = on_one_tape(FLOW_A, 100, &[6, 9, 5], 0);
     assert_eq!((ran.p, ran.m), (vec![3, 2, 0], vec![0, 1, 0]));
 
-    let stop = on_one_tape("flow,1,0,1\n1,stop\n", 0, &[], 0);
+    let stop = on_one_tape(STOP, 0, &[], 0);
     assert_eq!((stop.end, stop.steps), (End::Stopped, 0));
 
     let b = |limit, free| {
@@ -84,7 +96,6 @@ fn texts() {
     }
     assert_eq!(flow(&nops(64)).instructions.len(), 64);
     for (text, refusal) in [
-        ("".to_string(), (2, 0)),
         ("flow,1,0,1".to_string(), (3, 0)),
         ("x".repeat(4097), (1, 0)),
         ("x".repeat(4096), (3, 0)),
@@ -234,7 +245,6 @@ fn reports() {
     assert_eq!(lines(LESS.as_bytes(), 4096), "report,2,2\n1,p,none\n1,m,1\n");
     for text in [FLOW_A, FLOW_B, CHAIN, SECOND, UNDER, LESS] {
         let flow = flow(text);
-        assert_eq!(flow.text(), text);
         let census = census(&flow, 4096).expect("few configurations");
         assert_eq!(by_numbers(&flow, i64::from(census.depth) + 1), census);
     }
@@ -275,11 +285,77 @@ fn samples() {
     assert_eq!(part(7, &[2, usize::MAX, 3], 1), (0, 0));
 }
 
+/// The borders between the empty text, which is legal, and others of few bytes, few lines or one byte many times.
+fn about_empty() {
+    assert_eq!(flow(""), Flow { tapes: 1, outputs: 0, variables: 1, instructions: vec![Instruction::Stop] });
+    assert_eq!(flow(STOP), flow(""));
+    for text in ["\0", "\r", " ", ",", "f", "0", "\t", "\n ", "\n\0", "\u{feff}", "flow,1,0,1", "flow,1,0,1\n1,stop"] {
+        assert_eq!(refused(text), (3, 0), "{text:?}");
+    }
+    for text in ["\n", "\n\n", "\n\n\n", "\r\n", " \n", "\t\n", ",\n", ",,,\n", "\0\n", "\u{feff}\n", "f\n", "1,stop\n", "stop\n"] {
+        assert_eq!(refused(text), (13, 1), "{text:?}");
+    }
+    for (text, refusal) in [
+        ("\nflow,1,0,1\n1,stop\n", (13, 1)),
+        (" \nflow,1,0,1\n1,stop\n", (13, 1)),
+        ("flow\n", (14, 1)),
+        ("flow,,,\n", (15, 1)),
+        ("flow,1,0,1\n", (8, 2)),
+        ("flow,3,3,4\n", (8, 2)),
+        ("flow,1,0,1\n\n", (13, 2)),
+        ("flow,1,0,1\n \n", (13, 2)),
+        ("flow,1,0,1\n\n1,stop\n", (13, 2)),
+        ("flow,1,0,1\n1,stop\n\n", (13, 3)),
+    ] {
+        assert_eq!(refused(text), refusal, "{text:?}");
+    }
+    for (byte, count, refusal) in [("\n", 4096, (13, 1)), ("\n", 4097, (1, 0)), ("\0", 4096, (3, 0)), ("\0", 4097, (1, 0))] {
+        assert_eq!(refused(&byte.repeat(count)), refusal, "{count} times {byte:?}");
+    }
+}
+
+/// Runs, the report and samples of the empty text.
+fn of_empty() {
+    let empty = flow("");
+    let refuse = |number| Refusal { number, place: 0 };
+    for (limit, free) in [(0, 0), (0, 1), (1, 0), (1_000_000, 0), (1_000_000, 3), (1_000_001, 0), (u64::MAX, 0)] {
+        let on = |records: &[i32], lengths: &[usize]| run(&empty, limit, records, lengths, free);
+        let stopped = Ran { end: End::Stopped, steps: 0, puts: vec![], p: vec![0], m: vec![0] };
+        assert_eq!(on(&[], &[0]), Ok(stopped.clone()));
+        assert_eq!(on(&[7], &[1]), Ok(stopped.clone()));
+        assert_eq!(on(&[7, 8, 9], &[3]), Ok(stopped));
+        for lengths in [&[][..], &[1], &[0, 0], &[0, 0, 0], &[usize::MAX]] {
+            assert_eq!(on(&[], lengths), Err(refuse(12)), "no records, lengths {lengths:?}");
+        }
+        for lengths in [&[][..], &[0], &[2], &[1, 0], &[0, 1], &[usize::MAX, 2]] {
+            assert_eq!(on(&[7], lengths), Err(refuse(12)), "one record, lengths {lengths:?}");
+        }
+    }
+
+    for cells in [1, 2, 4096, 65_536, 65_537, usize::MAX] {
+        assert_eq!(lines(b"", cells), "report,1,1\n");
+    }
+    assert_eq!(lines(b"", 0), "refused,9,0\n");
+    let found = Census { configurations: 1, p: vec![None], m: vec![None], depth: 0 };
+    assert_eq!(census(&empty, 1), Ok(found.clone()));
+    assert_eq!(census(&empty, 0), Err(refuse(9)));
+    assert_eq!(by_numbers(&empty, 1), found);
+
+    for instruction in [0, 1, 2, 64, 65, 1 << 32, (1 << 32) + 1, u64::MAX] {
+        for (exit_p, row) in [(true, 0), (false, 0), (true, 5), (false, 5)] {
+            assert_eq!(wanted(&empty, instruction, exit_p, Ok(&found), row), Err(refuse(11)));
+            assert_eq!(wanted(&empty, instruction, exit_p, Err(refuse(9)), row), Err(refuse(11)));
+        }
+    }
+}
+
 /// Asserts the pieces, and some that the words of documents 01 and 02 settle directly.
 pub fn check() {
     runs();
     texts();
     borders();
+    about_empty();
     reports();
     samples();
+    of_empty();
 }

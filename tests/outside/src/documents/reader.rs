@@ -1,5 +1,5 @@
-//! Reading a flow text: document 01, "The flow text", and the rows 1 to 8 of "Where a request is turned back", with 13, 14 and 15 of
-//! document 02 (T-02) where 4 stood.
+//! Reading a flow text: document 01, "The flow text", and the rows 1 to 8 of "Where a request is turned back", as document 02 (T-02, T-08)
+//! changes them: 13, 14 and 15 stand where 4 stood, and 2 is gone, as no bytes are a legal text.
 
 use super::flow::{Flow, Instruction, Refusal};
 
@@ -109,13 +109,18 @@ fn instruction(word: &[u8], values: &[i64]) -> Instruction {
     }
 }
 
+/// The flow that no bytes at all mean: document 02 (T-08).
+fn of_no_bytes() -> Flow {
+    Flow { tapes: 1, outputs: 0, variables: 1, instructions: vec![Instruction::Stop] }
+}
+
 /// The flow of a legal text, or the refusal that the table of documents 01 and 02 gives it, from the whole text down to "after all lines".
 pub fn read(text: &[u8]) -> Result<Flow, Refusal> {
     let refuse = |number, place: usize| Err(Refusal { number, place: place as u64 });
     if text.len() > BYTES {
         return refuse(1, 0);
     }
-    let Some((&last, body)) = text.split_last() else { return refuse(2, 0) };
+    let Some((&last, body)) = text.split_last() else { return Ok(of_no_bytes()) };
     if last != b'\n' {
         return refuse(3, 0);
     }

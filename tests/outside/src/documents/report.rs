@@ -1,4 +1,4 @@
-//! What the program `report` prints: document 01, "The report".
+//! What the program `report` prints: document 01, "The report", and for no bytes document 02 (T-08).
 
 use super::flow::Refusal;
 use super::reader::read;

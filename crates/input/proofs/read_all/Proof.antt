@@ -1,11 +1,11 @@
--- `report::read_all` meets its contract: n stays within the buffer, whose length stays as it was, and every turn leaves one read less.
+-- `input::read_all` meets its contract: n stays within the buffer, whose length stays as it was, and every turn leaves one read less.
 use Prim.Native.Nat.{_≤_}
 use mathlib.Core.Path.{_≡_}
 use lib.ListN.{length}
 use borrow.Author.Needs.{needs}
-use Rattle.report.specs.inner.Input.{FillsBuffer}
-use Rattle.report.proofs.read_all.Statement.{statement}
-use Rattle.report.proofs.read_all.Tie as tie
+use Rattle.input.specs.Input.{FillsBuffer}
+use Rattle.input.proofs.read_all.Statement.{statement}
+use Rattle.input.proofs.read_all.Tie as tie
 
 abbrev Inv-loop : tie.InvT-loop
 Inv-loop fd buf₀ n₀ reads₀ buf n reads = (n ≤ length buf) × (length buf ≡ length buf₀)

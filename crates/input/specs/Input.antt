@@ -2,8 +2,8 @@
 use Prim.Native.Nat.{ℕ, _≤_}
 use mathlib.Core.List.{List}
 use lib.ListN.{length}
-use Rattle.report.specs.declared.Input.{Input}
-use Rattle.report.specs.declared.Input.the-variants.{Bytes, Failed}
+use Rattle.input.specs.declared.Input.{Input}
+use Rattle.input.specs.declared.Input.the-variants.{Bytes, Failed}
 
 unfoldable pub FillsBuffer : Input → List ℕ → Type 0
 FillsBuffer (Bytes n) buf = n ≤ length buf

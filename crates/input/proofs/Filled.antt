@@ -1,0 +1,12 @@
+-- The bytes that were read stand within the buffer.
+use mathlib.Core.Path.{_≡_, subst}
+use mathlib.Core.List.{List}
+use Prim.Native.Nat.{ℕ, _≤_}
+use lib.ListN.{length}
+use Rattle.input.specs.Input.{FillsBuffer}
+use Rattle.input.specs.declared.Input.{Input}
+use Rattle.input.specs.declared.Input.the-variants.{Bytes}
+
+pub filled : (r : Input) (buf : List ℕ) {n : ℕ} → FillsBuffer r buf → r ≡ Bytes n → n ≤ length buf
+unfolding FillsBuffer
+filled r buf f e = subst (λ (r : Input). FillsBuffer r buf) e f
