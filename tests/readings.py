@@ -421,10 +421,16 @@ def counted_flows():
 
 # ---- the files of crates/test_readings
 
+# names that are no texts: a folder, and a file that is not there; what cannot be read is not read as no bytes are
+UNREAD = ["empty", "empty/missing"]
+
+
 def files():
+    assert not CASES.keys() & set(UNREAD)
     made = {f"test_readings/data/{name}": text for name, text in CASES.items()}
-    made["test_readings/data/index"] = "".join(name + "\n" for name in CASES).encode()
-    made["test_readings/stdout"] = b"".join(name.encode() + b" " + read(text) for name, text in CASES.items())
+    made["test_readings/data/index"] = "".join(name + "\n" for name in [*CASES, *UNREAD]).encode()
+    told = [f"{name} ".encode() + read(text) for name, text in CASES.items()] + [f"{name} cannot be read\n".encode() for name in UNREAD]
+    made["test_readings/stdout"] = b"".join(told)
     return made
 
 
