@@ -17,7 +17,7 @@
  * aligned for its type and must not be null. This holds for a row of no elements too; nothing is read or written there.
  *
  * TEXT. A text of no bytes is a flow: T = 1, no outputs, one variable and the single instruction `stop`. Pass text_len 0 and any pointer
- * that is not null; it is not read. So do not pass what could not be read as a text of no bytes: look at the error first.
+ * that is not null; it is not read. If a text could not be read, do not call: a length of 0 means this flow.
  *
  * Every function answers for every text, number and row. It keeps no state, allocates no memory and prints nothing.
  *

@@ -18,8 +18,7 @@ import tempfile
 import termios
 import time
 
-REPORT, *MAKERS = sys.argv[1:]
-C = MAKERS[0]
+REPORT, C, RUST = sys.argv[1:]
 FLOW_A = b"flow,1,0,1\n1,read,1,1,2,3\n2,over,5,1,1,3\n3,stop\n"
 REPORT_A = b"report,3,19\n1,p,1\n1,m,1\n2,p,2\n2,m,2\n"
 SAMPLES_A = pathlib.Path("examples/expected/a").read_bytes()
@@ -187,7 +186,7 @@ def of_maker(program):
 
 def main():
     tried = failed = 0
-    for program, cases in (REPORT, of_report()), *((maker, of_maker(maker)) for maker in MAKERS):
+    for program, cases in (REPORT, of_report()), (C, of_maker(C)), (RUST, of_maker(RUST)):
         for name, did, out, err in cases:
             tried += 1
             ought = 2 if err == UNREAD_FILE else 0, out, err

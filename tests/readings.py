@@ -34,7 +34,7 @@ NO_BYTES = b"flow,1,0,1\n1,stop\n"
 def read(text):
     """The text of the flow, made of its words and numbers alone, or the refusal. A number has one way of writing, so a legal flow has
     exactly one text, which is the answer; only the flow of NO_BYTES has exactly two, that one and the empty one. A text is refused
-    by 1, 3, 5, 6, 7, 8, 13, 14 or 15: 2 and 4 no longer occur."""
+    by 1, 3, 5, 6, 7, 8, 13, 14 or 15: 2 and 4 do not occur."""
     def refused(number, place):
         return b"refused,%d,%d\n" % (number, place)
 
@@ -371,7 +371,7 @@ turned_back("line-66-number", "8,66", nops(65, "{},nop,01"))
 ALONE = "flow,1,0,1\n1,stop\n"
 for name, answer, text in [
     # the flow itself, and other flows
-    ("alone", "flow,1,0,1\n1,stop\n", ALONE), ("alone-two-tapes", "flow,2,0,1\n1,stop\n", "flow,2,0,1\n1,stop\n"),
+    ("alone", ALONE, ALONE), ("alone-two-tapes", "flow,2,0,1\n1,stop\n", "flow,2,0,1\n1,stop\n"),
     ("alone-one-output", "flow,1,1,1\n1,stop\n", "flow,1,1,1\n1,stop\n"),
     ("alone-two-variables", "flow,1,0,2\n1,stop\n", "flow,1,0,2\n1,stop\n"),
     # bytes, and the last of them is not 10
@@ -394,7 +394,7 @@ for name, answer, text in [
     case(f"empty/{name}", text)
     answered(f"empty/{name}", answer)
 # no bytes, and other texts on the border that stand in other topics
-for name, answer in [("whole/no-bytes", "flow,1,0,1\n1,stop\n"), ("whole/end-alone", "13,1"), ("whole/4096-ends", "13,1"),
+for name, answer in [("whole/no-bytes", ALONE), ("whole/end-alone", "13,1"), ("whole/4096-ends", "13,1"),
                      ("whole/byte-alone", "3,0"), ("whole/no-end", "3,0"), ("lines/only-line-1", "8,2"),
                      ("lines/empty-1", "13,1"), ("lines/empty-2", "13,2"), ("lines/empty-last", "13,5")]:
     answered(name, answer)

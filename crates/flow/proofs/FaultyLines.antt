@@ -19,12 +19,15 @@ abbrev refusal : Checked Flow → Option (ℕ × ℕ)
 refusal (ok flow) = none
 refusal (fault r) = some (numberAndPlace r)
 
--- a line as line 1, and as the line of instruction 1
+-- a line as line 1, and as the line of instruction 1; and a whole text
 abbrev asHead : String → Option (ℕ × ℕ)
 asHead line = refusal (readFlow (bytes line ++ bytes "\n1,stop\n"))
 
 abbrev asInstruction : String → Option (ℕ × ℕ)
 asInstruction line = refusal (readFlow (bytes "flow,1,0,1\n" ++ bytes line ++ bytes "\n"))
+
+abbrev asText : String → Option (ℕ × ℕ)
+asText text = refusal (readFlow (bytes text))
 
 -- lines with their numbers, those of docs/FLOWS.md among them
 abbrev heads : List (String × ℕ)
@@ -66,10 +69,8 @@ found judge = map (λ (l : String × ℕ). judge (l .0))
 abbrev ought : ℕ → List (String × ℕ) → List (Option (ℕ × ℕ))
 ought place = map (λ (l : String × ℕ). some (l .1, place))
 
-pub faulty-lines : (found asHead heads ≡ ought 1 heads) × (found asInstruction instructions ≡ ought 2 instructions)
+pub faulty-lines : (found asHead heads ≡ ought 1 heads)
+    × (found asInstruction instructions ≡ ought 2 instructions)
+    × (map (λ (t : String × Option (ℕ × ℕ)). asText (t .0)) nearlyEmpty ≡ map (λ (t : String × Option (ℕ × ℕ)). t .1) nearlyEmpty)
 unfolding Read.readFlow Read.readBytes Read.readRest Read.readHead Read.headOf Read.readLines Read.readLine Read.numerals bind Read.all Words.firstNamed Split.lines Split.split Split.parts Split.lead Split.sameWord Number.natural Number.numeral Number.negative Number.digitsAfter
-faulty-lines = (refl, refl)
-
-pub nearly-empty : map (λ (t : String × Option (ℕ × ℕ)). refusal (readFlow (bytes (t .0)))) nearlyEmpty ≡ map (λ (t : String × Option (ℕ × ℕ)). t .1) nearlyEmpty
-unfolding Read.readFlow Read.readBytes Read.readRest Read.readHead Read.headOf Read.readLines Read.readLine Read.numerals bind Read.all Words.firstNamed Split.lines Split.split Split.parts Split.lead Split.sameWord Number.natural Number.numeral Number.negative Number.digitsAfter
-nearly-empty = refl
+faulty-lines = (refl, refl, refl)

@@ -1,5 +1,5 @@
 // The reading of an input to its end. One that cannot be read is told apart from one without bytes: no bytes are a flow (document 02, T-08).
-ghost use Rattle.input.specs.Input.{FillsBuffer};
+ghost use Rattle.input.specs.Input.{WithinBuffer};
 use libc::EINTR;
 
 // How the reading of an input ends: with a number of bytes, or with a read that failed.
@@ -11,7 +11,7 @@ pub enum Input {
 // Reads until the input ends or buf is full. A read that a signal interrupts is done again. A proved loop has to end, and nothing says that
 // interruptions do: so the reads are counted down, from a number that no run uses up.
 pub fn read_all(fd: i32, buf: &mut [u8]) -> Input
-    ensures { λ r. ⌜ FillsBuffer r (now (buf .exit)) ⌝ }
+    ensures { λ r. ⌜ WithinBuffer r (now (buf .exit)) ⌝ }
 {
     let mut n = 0;
     let mut reads = u64::MAX;

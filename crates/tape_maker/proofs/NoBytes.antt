@@ -1,26 +1,27 @@
--- What the requests answer for a text of no bytes (document 02, T-08). Its flow has the single instruction `stop`: a run of it stays at its
--- start, so that a run is stopped after 0 steps, one configuration is reachable, and no exit is taken; and there is no exit that a sample
--- could be wanted for.
+-- What the requests answer for a text of no bytes (document 02, T-08). Its flow has one tape and the single instruction `stop`. The run on any
+-- tape stays at its start: it is stopped after 0 steps, one configuration is reachable, and no exit is taken. And there is no exit that a
+-- sample could be wanted for.
 use mathlib.Core.Path.{_≡_, refl, sym, ap, _∙_, subst}
-use mathlib.Core.Bool.{Bool, true, false}
+use mathlib.Core.Bool.{Bool, false}
 use mathlib.Core.List.{List, [], _∷_}
 use mathlib.Core.Option.{Option, none, some}
 use mathlib.Core.Logic.{inl, inr}
-use Prim.Native.Nat.{ℕ, zero, suc, _+_, _≤_, _<_, min}
+use Prim.Native.Nat.{ℕ, zero, suc, _+_, _≤_}
 use native.Mathlib.Omega.{arith}
-use borrow.Author.Tests.{eq-eqb}
+use borrow.Author.Tests.{eq-eqb, ne-eqb}
 use lib.IntN.{ℤ}
-use lib.ListN.{length, getD, replicate, getD-replicate}
+use lib.ListN.{length, replicate, getD-replicate}
 use Rattle.graph.specs.Lists.{Census}
-use Rattle.model.specs.Language.{Instruction, Flow, instruction, hasExits, C1, C2}
+use Rattle.graph.proofs.Counting.{census-unique}
+use Rattle.model.specs.Language.{instruction, hasExits, C1, C2}
 use Rattle.model.specs.Machine.{start, run, Exit, p-exit, m-exit, exitOf, exitIf}
 use Rattle.model.specs.Distance.{NoDistance, Says}
 use Rattle.model.specs.Configuration.{Configuration, configuration, Reachable}
 use Rattle.model.specs.Tapes.{tapesIn, total}
 use Rattle.flow.specs.Limits.{maxInstructions}
-use Rattle.flow.specs.Read.{Checked, ok, onlyStop, readFlow}
+use Rattle.flow.specs.Read.{Checked, ok, fault, onlyStop, readFlow}
 use Rattle.flow.specs.declared.Refusal.{Refusal}
-use Rattle.flow.specs.declared.Refusal.the-variants.{NoSuchExit}
+use Rattle.flow.specs.declared.Refusal.the-variants.{NoSuchExit, TooFewCells, WrongTapes}
 use Rattle.flow.proofs.LegalLaws.{always-stop}
 use Rattle.interpreter.specs.Run.{Outcome, outcome, begin, limited, rowRun, ranOf, tapesPut, valuesPut, zeroEach}
 use Rattle.interpreter.specs.declared.RunEnd.the-variants.{Stopped}
@@ -31,9 +32,10 @@ use Rattle.sample.specs.declared.SampleEnd.{SampleEnd}
 use Rattle.sample.specs.declared.SampleEnd.the-variants.{Taken, Never, Refused}
 use Rattle.sample.specs.declared.SampleAnswer.{SampleAnswer}
 use Rattle.tape_maker.specs.Run.{requestedOf, requested, answerOf, outputAfter, RunIs}
-use Rattle.tape_maker.specs.Report.{Reported, FlowReport, ReportOf, ReportIs}
+use Rattle.tape_maker.specs.Report.{Reported, FlowReport, ReportOf, ReportIs, refusal}
 use Rattle.tape_maker.specs.Sample.{Wanted, Reason, no-such-exit, too-few-cells, short-row, Answered, SampleOf, SampleIs}
-use Rattle.tape_maker.specs.declared.ReportEnd.the-variants.{Given}
+use Rattle.tape_maker.specs.declared.ReportEnd.{ReportEnd}
+use Rattle.tape_maker.specs.declared.ReportEnd.the-variants.{Given, Refused as ReportRefused}
 use Rattle.tape_maker.specs.declared.ReportAnswer.{ReportAnswer}
 use Rattle.tape_maker.proofs.ReportSettles.{Agree, report-settled}
 
@@ -72,7 +74,16 @@ no-bytes-run limit row {numbers} {numbers′} {values} r is = let e = asked limi
   is .values-after ∙ ap (λ (o : Checked Outcome). outputAfter valuesPut o values) e,
 )
 
--- ---- a report with at least one cell
+-- a run with any other lengths
+pub no-bytes-lengths : (limit : ℕ) (row : List ℤ) (lengths : List ℕ) (numbers : List ℕ) (values : List ℤ) → (lengths ≡ length row ∷ [] → ⊥)
+    → requested [] limit row lengths numbers values ≡ fault WrongTapes
+unfolding requested requestedOf readFlow total
+no-bytes-lengths limit row [] numbers values other = refl
+no-bytes-lengths limit row (n ∷ []) numbers values other =
+    rw (ne-eqb (n + 0) (length row) (λ e. other (ap (λ (k : ℕ). k ∷ []) (omega arith)))) refl
+no-bytes-lengths limit row (n ∷ k ∷ ks) numbers values other = rw (ne-eqb (length (n ∷ k ∷ ks)) 1 (λ e. omega arith)) refl
+
+-- ---- a report with at least one cell, and without cells
 abbrev first : Configuration
 first = configuration (C1 onlyStop) (C2 onlyStop) (start onlyStop ([] ∷ []))
 
@@ -103,6 +114,16 @@ unfolding readFlow ReportOf FlowReport
 no-bytes-report {cells} r l is =
     report-settled [] {c′ = cells} {c₂ = cells} refl r stopReport is
     (record { answer = reported (cellsOf cells) l; cells-zero = λ why e. let z : _≡_ {A = ℕ} 0 1 = cc in absurd (omega arith) })
+
+pub no-bytes-no-cells : {cells cells′ : List (List ℕ)} (r : ReportAnswer) → cellsOf cells ≡ 0 → ReportIs [] cells cells′ r
+    → (r ≡ refusal TooFewCells) × (cells′ ≡ zeroed cells)
+unfolding readFlow ReportOf FlowReport
+no-bytes-no-cells {cells} {cells′} r zero-cells is = by (r .end) refl (is .answer)
+  where
+    by : (end : ReportEnd) → r .end ≡ end → FlowReport onlyStop (cellsOf cells) r end → (r ≡ refusal TooFewCells) × (cells′ ≡ zeroed cells)
+    by Given e a =
+        absurd (omega (arith, a .few, a .count .is, census-unique (a .count .list) (first ∷ []) (a .count .census) one, zero-cells))
+    by (ReportRefused why) e (few, more, whole) = (whole ∙ ap refusal few, is .cells-zero why e)
 
 -- ---- a sample for any instruction and exit
 pub no-bytes-sample : {i : ℕ} {exit : Bool} {cells cells′ : List (List ℕ)} {row row′ : List ℤ} (r : SampleAnswer)

@@ -305,8 +305,8 @@ const WORDS: [&str; 24] = [
     "stop\r", "stop\0", "stopp", "sto", "const", "\u{e9}", "1",
 ];
 
-/// Texts that could be taken for the empty one, beside the lone byte 10.
-const NEARLY: [&str; 11] = ["\n\n", "\r\n", " \n", ",\n", "\0\n", "\0", "\r", " ", ",", "f", "flow,1,0,1\n"];
+/// Texts that could be taken for the empty one.
+const NEARLY: [&str; 12] = ["\n", "\n\n", "\r\n", " \n", ",\n", "\0\n", "\0", "\r", " ", ",", "f", "flow,1,0,1\n"];
 
 const BYTES: &[u8] = b"0123456789,,,-\n\n+ \t\r\0aflowreadputcopysetlessoverundernopstop\xff\x80F.;";
 
@@ -510,8 +510,7 @@ fn long_text(rng: &mut Rng, mut text: Vec<u8>) -> Vec<u8> {
 pub fn damaged(rng: &mut Rng) -> Vec<u8> {
     match rng.below(100) {
         0..=4 => return Vec::new(),
-        5 => return vec![10],
-        6..=8 => return rng.pick(&NEARLY).as_bytes().to_vec(),
+        5..=8 => return rng.pick(&NEARLY).as_bytes().to_vec(),
         _ => {}
     }
     if rng.below(6) == 0 {

@@ -3,7 +3,7 @@ use Prim.Native.Nat.{_≤_}
 use mathlib.Core.Path.{_≡_}
 use lib.ListN.{length}
 use borrow.Author.Needs.{needs}
-use Rattle.input.specs.Input.{FillsBuffer}
+use Rattle.input.specs.Input.{WithinBuffer}
 use Rattle.input.proofs.read_all.Statement.{statement}
 use Rattle.input.proofs.read_all.Tie as tie
 
@@ -14,7 +14,7 @@ abbrev μ-loop : tie.MeasureT-loop
 μ-loop fd buf₀ n₀ reads₀ buf n reads = reads
 
 pub read-all-spec : {M : Type 1} → statement M
-unfolding FillsBuffer
+unfolding WithinBuffer
 read-all-spec =
     tie.close
     (tie.spec

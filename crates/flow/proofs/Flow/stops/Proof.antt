@@ -3,7 +3,6 @@ use borrow.Author.Needs.{needs}
 use mathlib.Core.Path.{ap, _∙_}
 use lib.ListN.{replicate}
 use Rattle.flow.specs.declared.Instruction.{Instruction}
-use Rattle.flow.specs.declared.Flow.{Flow}
 use Rattle.flow.proofs.Flow.stops.Statement.{statement}
 use Rattle.flow.proofs.Flow.stops.Tie as tie
 
