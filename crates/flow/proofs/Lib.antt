@@ -6,10 +6,8 @@ pub mod SignedLaws
 pub mod ClampLaws
 pub mod ReadLaws
 pub mod HeadLaws
-pub mod FlowLaws
 pub mod LegalLaws
 pub mod WriteLineLaws
-pub mod LineLaws
 pub mod Numbers
 pub mod Places
 pub mod WriteSizeLaws

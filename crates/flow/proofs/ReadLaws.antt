@@ -1,30 +1,24 @@
--- What reading gives: the checks that an answer has passed, the answer by rows, and what a legal flow is worth.
+-- What reading gives: the checks that an answer has passed, the targets, and the two cases of a whole text.
 use mathlib.Core.Path.{_≡_, refl, ap, _∙_, subst}
 use mathlib.Core.Bool.{Bool, true, false, cond}
-use mathlib.Core.List.{List, [], _∷_, map}
+use mathlib.Core.List.{List, [], _∷_}
 use mathlib.Core.Option.{Option, none, some}
-use Prim.Native.Nat.{ℕ, zero, suc, _+_, _-_, _≤_, _<_}
+use Prim.Native.Nat.{ℕ, zero, suc, _+_, _≤_}
 use native.Mathlib.Omega.{arith}
-use native.Mathlib.Numerals.{add-one}
 use borrow.Author.Tests.{leb-true, eqb-true}
 use lib.Dec.{leb, eqb}
 use lib.IntN.{ℤ}
-use lib.ListN.{length, getD, take, drop, length-map, List·getD-map, drop-of-length-le}
-use lib.Seq.{drop-cons, getD-take, length-take-le}
+use lib.ListN.{length, getD, drop}
 use Rattle.model.specs.Language.{Instruction, stop, fields}
 use Rattle.text.specs.Split.{split}
 use Rattle.text.specs.Number.{natural}
 use Rattle.flow.specs.Limits.{maxInstructions}
 use Rattle.flow.specs.Words.{kindOf, sorts, built}
-use Rattle.flow.specs.Read.{Checked, ok, fault, check, given, after, inRange, isNamed, all, numerals, readLine, readLines, lostTarget}
-use Rattle.flow.specs.inner.Reader.{clamped, HeadFits}
+use Rattle.flow.specs.Read.{Checked, ok, fault, check, given, after, inRange, isNamed, all, numerals, readLine, readLines, lostTarget, readBytes, onlyStop, readFlow}
 use Rattle.flow.specs.declared.Kind.{Kind}
 use Rattle.flow.specs.declared.Refusal.{Refusal}
 use Rattle.flow.specs.declared.Refusal.the-variants.{UnknownWord, WrongCount, BadNumber, OutOfTurn, OutOfRange, TooManyLines}
 use Rattle.flow.specs.declared.Head.{Head}
-use Rattle.flow.specs.declared.Instruction.{Instruction as Row}
-use Rattle.flow.proofs.ClampLaws.{is-named-clamp}
-use Rattle.flow.specs.inner.Rows.{instructionOf}
 
 -- ---- an answer that is no refusal has passed its checks
 pub fault-not-ok : {A : Type 0} {r : Refusal} {x : A} → fault r ≡ ok x → ⊥
@@ -140,11 +134,6 @@ pub at-most-64 : (h : Head) (ls : List (List ℕ)) (xs : List Instruction) → r
 at-most-64 h ls xs e = omega (arith, few-lines h 1 ls xs e (omega arith))
 
 -- ---- targets
-pub lost-clamp : (h : Head) → HeadFits h → (n line : ℕ) → n < 255 → (xs : List Instruction) → lostTarget n line (map instructionOf (map clamped xs)) ≡ lostTarget n line xs
-unfolding lostTarget
-lost-clamp h f n line l [] = refl
-lost-clamp h f n line l (x ∷ xs) = rw (is-named-clamp h f n l x, lost-clamp h f n (suc line) l xs)
-
 pub none-lost : (n line : ℕ) (xs : List Instruction) → lostTarget n line xs ≡ none → (j : ℕ) → all (isNamed n) (fields (getD xs j stop)) ≡ true
 unfolding lostTarget all
 none-lost n line [] e j = refl
@@ -162,26 +151,13 @@ unfolding lostTarget
 lost-none n line [] h = refl
 lost-none n line (x ∷ xs) h = rw (h 0, lost-none n (suc line) xs (λ j. h (suc j)))
 
--- the line of row i, looked at from there on
-module _ (n count : ℕ) (rows : List Row) (long : count ≤ length rows) where
-  abbrev held : List Instruction
-  held = map instructionOf (take count rows)
+-- ---- the whole text: one of no bytes, and any other
+pub no-bytes : (text : List ℕ) → length text ≡ 0 → readFlow text ≡ ok onlyStop
+unfolding readFlow
+no-bytes [] e = refl
+no-bytes (b ∷ bs) e = absurd (omega arith)
 
-  held-at : (i : ℕ) (d : Row) → i < count → drop i held ≡ instructionOf (getD rows i d) ∷ drop (suc i) held
-  held-at i d l =
-      drop-cons held i (instructionOf d) (omega (arith, length-map (take count rows) instructionOf, length-take-le count rows long))
-      ∙ ap (λ (x : Instruction). x ∷ drop (suc i) held) (List·getD-map instructionOf (take count rows) i d ∙ ap instructionOf (getD-take count rows i d l))
-
-  pub target-lost : (i : ℕ) (d : Row) → i < count → all (isNamed n) (fields (instructionOf (getD rows i d))) ≡ false
-      → some (i + 2) ≡ lostTarget n (i + 2) (drop i held)
-  unfolding lostTarget
-  target-lost i d l e = rw (held-at i d l, e)
-
-  pub target-named : (i : ℕ) (d : Row) → i < count → all (isNamed n) (fields (instructionOf (getD rows i d))) ≡ true
-      → lostTarget n (i + 1 + 2) (drop (i + 1) held) ≡ lostTarget n (i + 2) (drop i held)
-  unfolding lostTarget
-  target-named i d l e = let f : i + 1 + 2 ≡ suc (i + 2) = omega arith in rw (held-at i d l, e, f, add-one i)
-
-  pub targets-end : (i : ℕ) → count ≤ i → none ≡ lostTarget n (i + 2) (drop i held)
-  unfolding lostTarget
-  targets-end i l = rw (drop-of-length-le held {i = i} (omega (arith, length-map (take count rows) instructionOf, length-take-le count rows long)))
+pub some-bytes : (text : List ℕ) → 1 ≤ length text → readFlow text ≡ readBytes text
+unfolding readFlow
+some-bytes [] l = absurd (omega arith)
+some-bytes (b ∷ bs) l = refl

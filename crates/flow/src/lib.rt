@@ -1,24 +1,18 @@
-// A flow: its instructions, its limits, and the reading of its text.
+// A flow: its instructions and its limits, and the words and rows of its lines. The crate `reader` reads its text.
 //
-// The limits stand in `Flow`, and nowhere else in the code. `read` is the reader: what it answers is what `readFlow` of
-// specs/Read.antt says of the text.
+// The limits stand in `Flow`, and nowhere else in the code.
 pub mod words; // words.rt: the word of a line, and the fields that it asks for
-mod rows; // rows.rt: an instruction as a row, its numbers, and their ranges
-mod line; // line.rt: one instruction line
-mod lines; // lines.rt: line 1, the instruction lines, the targets
+pub mod rows; // rows.rt: an instruction as a row, its numbers, and their ranges
 pub mod lent; // lent.rt: an instruction fetched from a lent slice, and stored there
 
 ghost use mathlib.Core.Path.{_≡_};
-ghost use Prim.Native.Nat.{_≤_};
-ghost use lib.ListN.{length, drop, replicate};
+ghost use lib.ListN.{replicate};
 ghost use Rattle.model.specs.Language.{stop};
 ghost use Rattle.flow.specs.Limits.{maxInstructions};
 ghost use Rattle.flow.specs.Refusals.{numberOf, placeOf};
-ghost use Rattle.text.specs.Split.{lines};
-ghost use Rattle.flow.specs.Read.{headOf, readRest, readBytes, onlyStop, readFlow, fault};
-ghost use Rattle.flow.specs.Code.{readingOf, rowOf, rowsOf, noFlow};
-ghost use Rattle.flow.specs.inner.Reader.{headIn, finished, HeadFits};
-use lines::Targets;
+ghost use Rattle.flow.specs.Read.{headOf, onlyStop};
+ghost use Rattle.flow.specs.Code.{rowOf, rowsOf, noFlow};
+ghost use Rattle.flow.specs.inner.Reader.{headIn};
 
 // The kinds of instruction, by their words.
 pub enum Kind {
@@ -123,7 +117,7 @@ impl Flow {
     pub const GREATEST_CONSTANT: i32 = 1000;
 
     // The counts of line 1, if they lie in their ranges.
-    fn head(tapes: u8, outputs: u8, variables: u8) -> Headed
+    pub fn head(tapes: u8, outputs: u8, variables: u8) -> Headed
         ensures { λ r. ⌜ headIn r ≡ headOf tapes outputs variables ⌝ }
     {
         let t = (1 <= tapes) & (tapes <= Flow::MAX_TAPES);
@@ -140,7 +134,11 @@ impl Flow {
     }
 
     // A flow with the counts of line 1 and some instructions.
-    fn new(head: Head, count: usize, instructions: [Instruction; Flow::MAX_INSTRUCTIONS]) -> Self
+    pub fn new(
+        head: Head,
+        count: usize,
+        instructions: [Instruction; Flow::MAX_INSTRUCTIONS],
+    ) -> Self
         ensures { λ r. ⌜ r ≡ record { tapes = head .tapes; outputs = head .outputs; variables = head .variables; count = count; instructions = instructions } ⌝ }
     {
         Flow {
@@ -165,14 +163,14 @@ impl Flow {
     }
 
     // One tape, no outputs, one variable and the single instruction `stop`.
-    fn only_stop() -> Self
+    pub fn only_stop() -> Self
         ensures { λ r. ⌜ r ≡ rowsOf onlyStop ⌝ }
     {
         Flow::stops(1, 1, 1)
     }
 
     // A flow with nothing in it.
-    fn none() -> Self
+    pub fn none() -> Self
         ensures { λ r. ⌜ r ≡ rowsOf noFlow ⌝ }
     {
         Flow::stops(0, 0, 0)
@@ -222,79 +220,5 @@ impl Refusal {
             Refusal::NoSuchExit => 0,
             Refusal::WrongTapes => 0,
         }
-    }
-}
-
-// Reads a flow text.
-pub fn read(text: &[u8]) -> Reading
-    ensures { λ r. ⌜ r ≡ readingOf (readFlow (now (text .entry))) ⌝ }
-{
-    if text.len() == 0 {
-        return Reading {
-            answer: Answer::Legal,
-            flow: Flow::only_stop(),
-        };
-    }
-    read_bytes(text)
-}
-
-// A text with bytes in it.
-fn read_bytes(text: &[u8]) -> Reading
-    requires { ⌜ 1 ≤ length (now text) ⌝ }
-    ensures { λ r. ⌜ r ≡ readingOf (readBytes (now (text .entry))) ⌝ }
-{
-    if Flow::MAX_BYTES < text.len() {
-        return refused(Refusal::TooLong);
-    }
-    if text[text.len() - 1] != 10 {
-        return refused(Refusal::NoLastEnd);
-    }
-    let end = text::end_of(text, 0, 10);
-    let headed = lines::read_head(&text[..end]);
-    match headed {
-        Headed::Heads(head) => read_rest(text, end + 1, head),
-        Headed::Fault(r) => refused(r),
-    }
-}
-
-// The answer for a refusal.
-fn refused(r: Refusal) -> Reading
-    ensures { λ a. ⌜ a ≡ readingOf (fault r) ⌝ }
-{
-    Reading {
-        answer: Answer::Refused(r),
-        flow: Flow::none(),
-    }
-}
-
-// The lines after line 1, and their targets.
-fn read_rest(text: &[u8], from: usize, head: Head) -> Reading
-    requires { ⌜ (from ≤ length (now text)) × HeadFits head ⌝ }
-    ensures { λ r. ⌜ r ≡ readingOf (readRest head (lines (drop from (now (text .entry))))) ⌝ }
-{
-    let read = lines::read_lines(text, from, head);
-    let answer = read.reply;
-    let rows = read.rows;
-    match answer {
-        Answer::Refused(r) => refused(r),
-        Answer::Legal => finish(head, read.count, rows),
-    }
-}
-
-// The flow of lines that are in order, if there are any and their targets are among them.
-fn finish(head: Head, count: usize, rows: [Instruction; Flow::MAX_INSTRUCTIONS]) -> Reading
-    requires { ⌜ count ≤ maxInstructions ⌝ }
-    ensures { λ r. ⌜ (r ≡ finished head count rows) × (length rows ≡ maxInstructions) ⌝ }
-{
-    if count == 0 {
-        return refused(Refusal::NoInstruction);
-    }
-    let targets = lines::check_targets(rows, count);
-    match targets {
-        Targets::Lost(line) => refused(Refusal::NoSuchTarget(line)),
-        Targets::Named => Reading {
-            answer: Answer::Legal,
-            flow: Flow::new(head, count, rows),
-        },
     }
 }

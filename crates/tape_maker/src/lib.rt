@@ -35,7 +35,7 @@ pub fn run(
     ensures { λ r. ⌜ RunIs (requested (now (text .entry)) limit (now (records .entry)) (now (lengths .entry)) (now (numbers .entry)) (now (values .entry)))
         (now (numbers .entry)) (now (numbers .exit)) (now (values .entry)) (now (values .exit)) r ⌝ }
 {
-    let reading = flow::read(text);
+    let reading = reader::read(text);
     let answer = reading.answer;
     let flow = reading.flow;
     match answer {

@@ -118,7 +118,7 @@ fn report_flow(flow: Flow, cells: &mut [[u32; Cell::WORDS]]) -> ReportAnswer
 pub fn answer(text: &[u8], cells: &mut [[u32; Cell::WORDS]]) -> ReportAnswer
     ensures { λ r. ⌜ ReportOf (readFlow (now (text .entry))) (cellsOf (now (cells .entry))) r ⌝ }
 {
-    let reading = flow::read(text);
+    let reading = reader::read(text);
     let answer = reading.answer;
     let flow = reading.flow;
     match answer {

@@ -99,7 +99,7 @@ pub fn answer(
 ) -> SampleAnswer
     ensures { λ r. ⌜ SampleOf (readFlow (now (text .entry))) instruction (exitIf exit) (cellsOf (now (cells .entry))) (now (row .entry)) (now (row .exit)) r ⌝ }
 {
-    let reading = flow::read(text);
+    let reading = reader::read(text);
     let answer = reading.answer;
     let flow = reading.flow;
     match answer {

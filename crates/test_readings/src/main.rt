@@ -94,7 +94,7 @@ fn print_flow(f: Flow) {
 
 // What a text is read as.
 fn print_reading(text: &[u8]) {
-    let reading = flow::read(text);
+    let reading = reader::read(text);
     let answer = reading.answer;
     match answer {
         Answer::Legal => print_flow(reading.flow),

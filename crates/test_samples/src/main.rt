@@ -186,7 +186,7 @@ fn print_sample(text: &[u8], f: Flow, i: usize, p: bool)
 }
 
 fn print_samples(text: &[u8]) {
-    let reading = flow::read(text);
+    let reading = reader::read(text);
     let f = reading.flow;
     let mut i = 0;
     while i < Flow::MAX_INSTRUCTIONS {

@@ -1,0 +1,4 @@
+pub mod TargetLaws
+pub mod HeadLaws
+pub mod LineLaws
+pub mod FlowLaws
