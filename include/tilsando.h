@@ -50,7 +50,7 @@ extern "C" {
 #endif
 
 /* The version of this interface. It rises by 1 with each change after which a program must be changed or compiled anew. */
-#define TILSANDO_VERSION 3
+#define TILSANDO_VERSION 4
 
 /* The limits: bytes of a text; instructions, input tapes, output tapes and variables of a flow; constants; steps of a run; cells used. */
 #define TILSANDO_BYTES 4096
@@ -58,8 +58,8 @@ extern "C" {
 #define TILSANDO_TAPES 3
 #define TILSANDO_OUTPUTS 3
 #define TILSANDO_VARIABLES 4
-#define TILSANDO_LEAST_CONSTANT (-1000)
-#define TILSANDO_GREATEST_CONSTANT 1000
+#define TILSANDO_LEAST_CONSTANT (-9999)
+#define TILSANDO_GREATEST_CONSTANT 9999
 #define TILSANDO_STEPS 1000000
 #define TILSANDO_CELLS 65536
 

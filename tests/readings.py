@@ -1,9 +1,9 @@
 #!/usr/bin/env python3
 """Flow texts, and what each is read as, for the program `test_readings`.
 
-The reader here is written from documents 01 ("The flow text", "Where a request is turned back") and 02 (T-02, T-08) alone and
-shares nothing with the crates. Without an argument the files of crates/test_readings are compared with what this script makes;
-with --write they are written.
+The reader here is written from documents 01 ("The flow text", "Where a request is turned back") and 02 (T-02, T-08, T-09)
+alone and shares nothing with the crates. Without an argument the files of crates/test_readings are compared with what this
+script makes; with --write they are written.
 """
 import sys
 
@@ -26,6 +26,9 @@ def number(field, minus=False):
         return None
     return int(field)
 
+
+# the range of a constant
+CONSTANTS = (-9999, 9999)
 
 # the flow that no bytes at all mean: one tape, no outputs, one variable and the single instruction `stop`
 NO_BYTES = b"flow,1,0,1\n1,stop\n"
@@ -55,7 +58,7 @@ def read(text):
         return refused(15, 1)
     if not (1 <= counts[0] <= 3 and counts[1] <= 3 and 1 <= counts[2] <= 4):
         return refused(5, 1)
-    ranges = {"A": (1, counts[0]), "Y": (1, counts[1]), "u": (1, counts[2]), "v": (1, counts[2]), "c": (-1000, 1000)}
+    ranges = {"A": (1, counts[0]), "Y": (1, counts[1]), "u": (1, counts[2]), "v": (1, counts[2]), "c": CONSTANTS}
     lines, lost = [b"flow,%d,%d,%d\n" % tuple(counts)], []
     for i, line in enumerate(rest, 1):
         if i == 65:
@@ -132,14 +135,17 @@ case("legal/chain", flow("1,read,1,1,2,6", "2,read,1,2,3,6", "3,over,3,1,4,6", "
 case("legal/stop-alone", flow("1,stop"))
 case("legal/no-outputs", flow("1,nop,2", "2,stop", head="flow,1,0,1"))
 case("legal/every-field", fields())
-MOST = ["read,3,4,64,64", "put,4,3,64", "copy,4,4,64", "set,1000,4,64", "less,4,4,64,64", "over,1000,4,64,64",
-        "under,4,1000,64,64", "nop,64", "stop"]
-LEAST = ["read,1,1,1,1", "put,1,1,1", "copy,1,1,1", "set,-1000,1,1", "less,1,1,1,1", "over,-1000,1,1,1", "under,1,-1000,1,1",
+MOST = ["read,3,4,64,64", "put,4,3,64", "copy,4,4,64", "set,9999,4,64", "less,4,4,64,64", "over,9999,4,64,64",
+        "under,4,9999,64,64", "nop,64", "stop"]
+LEAST = ["read,1,1,1,1", "put,1,1,1", "copy,1,1,1", "set,-9999,1,1", "less,1,1,1,1", "over,-9999,1,1,1", "under,1,-9999,1,1",
          "nop,1", "stop"]
 UNLIKE = ["read,2,3,4,5", "put,3,2,4", "copy,2,3,4", "set,-5,3,6", "less,2,3,4,6", "over,-5,3,7,8", "under,3,-5,8,9", "nop,9", "stop"]
 case("legal/nine-kinds-greatest", flow(*(f"{i},{MOST[i % 9]}" for i in range(1, 65)), head="flow,3,3,4"))
 case("legal/nine-kinds-least", flow(*(f"{i},{x}" for i, x in enumerate(LEAST, 1)), head="flow,1,1,1"))
 case("legal/nine-kinds-unlike", flow(*(f"{i},{x}" for i, x in enumerate(UNLIKE, 1)), head="flow,3,2,4"))
+# no legal text is longer: line 1 has 11 bytes, nine lines have 22 and 55 have 23
+case("legal/longest", flow(*(f"{i},under,4,-9999,64,64" for i in range(1, 65)), head="flow,3,3,4"))
+assert len(CASES["legal/longest"]) == 1474 <= 4096
 
 # the whole text: refusals 1 and 3; a text of no bytes is a flow
 case("whole/4096-bytes", long(4096))
@@ -160,7 +166,7 @@ case("lines/64-instructions", nops(64))
 case("lines/65-instructions", nops(65))
 case("lines/65-word", nops(64, "{},no,1"))
 case("lines/65-turn", nops(64, "65,nop,1"))
-case("lines/65-range", nops(64, "{},set,1001,1,1"))
+case("lines/65-range", nops(64, "{},set,10000,1,1"))
 case("lines/65-target", nops(64, "{},nop,65"))
 case("lines/66-faulty", nops(65, "x"))
 case("lines/66-empty", nops(65, ""))
@@ -233,13 +239,15 @@ case("digits/c-500-minus", fields(c=-(2 ** 64) * 10 ** 480 - 1))
 
 # ranges: refusal 5
 for kind, values in [("T", (0, 1, 3, 4)), ("O", (0, 3, 4)), ("V", (0, 1, 4, 5)), ("A", (0, 2, 3)), ("v", (0, 2, 3)), ("Y", (0, 2)),
-                     ("c", (-1001, -1000, 0, 1000, 1001))]:
+                     ("c", (-10000, -9999, -1001, -1000, 0, 1000, 1001, 9999, 10000))]:
     for value in values:
         case(f"range/{kind}-{value}".replace("--", "-minus-"), fields(**{kind: value}))
 for name, line in [("put-variable", "put,3,1,1"), ("put-no-outputs", "put,1,1,1"), ("copy-first", "copy,3,1,1"), ("copy-second", "copy,1,3,1"),
                    ("less-first", "less,3,1,1,1"), ("less-second", "less,1,3,1,1"), ("over-1001", "over,1001,1,1,1"),
-                   ("over-minus-1001", "over,-1001,1,1,1"), ("over-variable", "over,1,3,1,1"), ("under-1001", "under,1,1001,1,1"),
-                   ("under-minus-1001", "under,1,-1001,1,1"), ("under-variable", "under,3,1,1,1"), ("set-variable", "set,1,3,1")]:
+                   ("over-minus-1001", "over,-1001,1,1,1"), ("over-10000", "over,10000,1,1,1"), ("over-minus-10000", "over,-10000,1,1,1"),
+                   ("over-variable", "over,1,3,1,1"), ("under-1001", "under,1,1001,1,1"), ("under-minus-1001", "under,1,-1001,1,1"),
+                   ("under-10000", "under,1,10000,1,1"), ("under-minus-10000", "under,1,-10000,1,1"), ("under-variable", "under,3,1,1,1"),
+                   ("set-variable", "set,1,3,1")]:
     case(f"range/{name}", flow("1," + line, head="flow,1,0,2" if name == "put-no-outputs" else "flow,1,1,2"))
 
 # turns: refusal 6
@@ -256,16 +264,16 @@ case("target/never-reached", flow("1,stop", "2,nop,3"))
 case("target/lowest-line", flow("1,nop,1", "2,less,1,1,1,4", "3,nop,0"))
 
 # the order of refusals
-case("order/15-before-6-before-5", flow("7,set,1001,1,01"))
-case("order/6-before-5", flow("7,set,1001,1,1"))
-case("order/5-before-7", flow("1,set,1001,1,9"))
+case("order/15-before-6-before-5", flow("7,set,10000,1,01"))
+case("order/6-before-5", flow("7,set,10000,1,1"))
+case("order/5-before-7", flow("1,set,10000,1,9"))
 case("order/15-before-5-line-1", flow("1,stop", head="flow,9,9,01"))
 case("order/line-1-with-5-line-2-with-13", flow("x", head="flow,9,1,1"))
-case("order/line-2-with-5-line-3-with-13", flow("1,set,1001,1,1", "x"))
+case("order/line-2-with-5-line-3-with-13", flow("1,set,10000,1,1", "x"))
 case("order/line-2-with-6-line-3-with-13", flow("2,stop", "x"))
 case("order/line-2-with-7-line-3-with-13", flow("1,nop,0", "2,stops"))
 case("order/line-2-with-7-line-3-with-6", flow("1,nop,0", "3,stop"))
-case("order/line-2-with-7-line-3-with-5", flow("1,nop,0", "2,set,1001,1,1"))
+case("order/line-2-with-7-line-3-with-5", flow("1,nop,0", "2,set,10000,1,1"))
 
 # the three kinds of faulty line, 13, 14 and 15, with their borders to each other and to 6, 5, 8 and 7
 for name, refusal, head in [
@@ -326,16 +334,16 @@ for name, refusal, line in [
     ("word-before-own", "13,3", "02,halt"), ("count-before-own", "14,3", "02,nop"), ("own-before-turn", "15,3", "09,nop,1"),
     ("word-before-turn", "13,3", "9,halt"), ("count-before-turn", "14,3", "9,nop"),
     ("number-before-turn", "15,3", "9,nop,01"), ("turn", "6,3", "9,nop,1"),
-    ("word-before-range", "13,3", "2,sets,1001,1,1"), ("count-before-range", "14,3", "2,set,1001,1"),
-    ("number-before-range", "15,3", "2,set,1001,1,01"), ("number-left-of-range", "15,3", "2,set,01,9,1"),
-    ("range", "5,3", "2,set,1001,1,1"),
+    ("word-before-range", "13,3", "2,sets,10000,1,1"), ("count-before-range", "14,3", "2,set,10000,1"),
+    ("number-before-range", "15,3", "2,set,10000,1,01"), ("number-left-of-range", "15,3", "2,set,01,9,1"),
+    ("range", "5,3", "2,set,10000,1,1"),
     ("word-before-target", "13,3", "2,nops,9"), ("count-before-target", "14,3", "2,nop,9,9"),
     ("number-before-target", "15,3", "2,nop,09"), ("target", "7,3", "2,nop,9"),
 ]:
     turned_back(name, refusal, flow("1,nop,1", line))
 
 # two lines at fault: the first one counts, but a target only after all lines
-FAULTS = {"word": "{},halt", "count": "{},nop", "number": "{},nop,01", "turn": "9,nop,1", "range": "{},set,1001,1,1", "target": "{},nop,9"}
+FAULTS = {"word": "{},halt", "count": "{},nop", "number": "{},nop,01", "turn": "9,nop,1", "range": "{},set,10000,1,1", "target": "{},nop,9"}
 for name, refusal in [
     ("word-then-count", "13,2"), ("word-then-number", "13,2"),
     ("word-then-turn", "13,2"), ("word-then-range", "13,2"), ("word-then-target", "13,2"),
@@ -398,6 +406,75 @@ for name, answer in [("whole/no-bytes", ALONE), ("whole/end-alone", "13,1"), ("w
                      ("whole/byte-alone", "3,0"), ("whole/no-end", "3,0"), ("lines/only-line-1", "8,2"),
                      ("lines/empty-1", "13,1"), ("lines/empty-2", "13,2"), ("lines/empty-last", "13,5")]:
     answered(name, answer)
+
+# constants, in each instruction that has one; the answers are written by hand, None for the flow of the text itself
+LEGAL = [-9999, -9998, -1001, -1000, -1, 0, 1, 1000, 1001, 9998, 9999]
+# a reader whose numbers have 8, 16, 32 or 64 bits takes some of these, or of their minus versions, for legal ones
+OUTSIDE = {
+    "10000": 10000, "10001": 10001, "10255": 10255, "19998": 19998, "32767": 32767, "32768": 32768, "55537": 55537, "65535": 65535,
+    "65536": 65536, "75535": 75535, "99990": 99990, "99999": 99999, "131072": 131072, "2-to-31": 2147483648,
+    "2-to-32-less-9999": 4294957297, "2-to-32": 4294967296, "2-to-32-and-9999": 4294977295, "2-to-63": 9223372036854775808,
+    "2-to-64-less-9999": 18446744073709541617, "2-to-64": 18446744073709551616, "2-to-64-and-9999": 18446744073709561615,
+    "10-to-40": 10 ** 40, "10-to-40-and-9999": 10 ** 40 + 9999, "500-nines": 10 ** 500 - 1,
+}
+BADLY = {
+    "09999": "09999", "010000": "010000", "minus-09999": "-09999", "minus-010000": "-010000", "plus-9999": "+9999", "plus-10000": "+10000",
+    "blank-after": "9999 ", "blank-before": " 9999", "blank-inside": "99 99", "blank-after-minus": "- 9999", "cr-after": "9999\r",
+    "nul-after": "9999\0", "minus-after": "9999-", "10000-minus-after": "10000-", "minus-alone": "-", "minus-twice": "--9999",
+    "minus-twice-10000": "--10000", "point": "9999.", "point-0": "9999.0", "point-for-comma": "9.999", "line-inside": "9_999",
+    "base-16": "270f", "power": "1e4", "minus-0": "-0", "four-zeros": "0000", "empty": "",
+}
+for word, line in [("set", "2,set,{},1,1"), ("over", "2,over,{},1,1,1"), ("under", "2,under,1,{},1,1")]:
+    def constant(name, answer, line):
+        text = flow("1,nop,2", line, head="flow,1,0,1")
+        case(f"constants/{word}-{name}", text)
+        answered(f"constants/{word}-{name}", answer or text)
+
+    for c in LEGAL:
+        constant(f"{c}".replace("-", "minus-"), None, line.format(c))
+    for name, c in OUTSIDE.items():
+        constant(name, "5,3", line.format(c))
+        constant(f"minus-{name}", "5,3", line.format(-c))
+    for name, digits in BADLY.items():
+        constant(name, "15,3", line.format(digits))
+    constant("comma-inside", "14,3", line.format("9,999"))
+    # the order of checks
+    for far in (10000, -10000):
+        for name, answer, other in [
+            ("word-before-range", "13,3", line.replace(word, word + "s")), ("count-before-range", "14,3", line + ",1"),
+            ("number-before-range", "15,3", line[:-1] + "01"), ("own-before-range", "15,3", "0" + line),
+            ("turn-before-range", "6,3", "9" + line[1:]), ("range-before-target", "5,3", line[:-1] + "9"),
+        ]:
+            constant(f"{name}-{far}".replace("--", "-minus-"), answer, other.format(far))
+    constant("turn-9999", "6,3", "9" + line[1:].format(9999))
+    constant("target-9999", "7,3", line[:-1].format(9999) + "9")
+# two lines: the first at fault counts, but a target only after all lines
+for name, answer, lines in [
+    ("range-then-range", "5,2", ("1,set,10000,1,1", "2,over,-10000,1,1,1")),
+    ("legal-then-range", "5,3", ("1,set,9999,1,1", "2,over,-10000,1,1,1")),
+    ("range-then-legal", "5,2", ("1,under,1,-10000,1,1", "2,set,9999,1,1")),
+    ("target-then-range", "5,3", ("1,nop,9", "2,under,1,10000,1,1")),
+    ("range-then-target", "5,2", ("1,over,10000,1,1,1", "2,nop,9")),
+]:
+    case(f"constants/{name}", flow(*lines))
+    answered(f"constants/{name}", answer)
+# the other numbers have ranges of their own, and no minus
+for kind, answer, minus in [
+    ("T", "5,1", "15,1"), ("O", "5,1", "15,1"), ("V", "5,1", "15,1"), ("I", "6,2", "15,2"), ("A", "5,2", "15,2"), ("v", "5,2", "15,2"),
+    ("Y", "5,3", "15,3"), ("N", "7,3", "15,3"), ("P", "7,2", "15,2"), ("M", "7,2", "15,2"),
+]:
+    for name, value, expected in [("9999", 9999, answer), ("minus-9999", -9999, minus)]:
+        case(f"constants/{kind}-{name}", fields(**{kind: value}))
+        answered(f"constants/{kind}-{name}", expected)
+for name, answer, line in [
+    ("put-variable-9999", "5,2", "1,put,9999,1,1"), ("copy-first-9999", "5,2", "1,copy,9999,1,1"),
+    ("copy-second-9999", "5,2", "1,copy,1,9999,1"), ("less-first-9999", "5,2", "1,less,9999,1,1,1"),
+    ("less-second-9999", "5,2", "1,less,1,9999,1,1"), ("set-both-9999", "5,2", "1,set,9999,9999,1"),
+    ("over-both-9999", "5,2", "1,over,9999,9999,1,1"), ("under-both-9999", "5,2", "1,under,9999,9999,1,1"),
+    ("set-all-9999", "5,2", "1,set,9999,9999,9999"), ("nop-9999", "7,2", "1,nop,9999"),
+]:
+    case(f"constants/{name}", flow(line))
+    answered(f"constants/{name}", answer)
 
 
 # ---- what holds of all texts

@@ -11,11 +11,19 @@ import readings
 import searches
 import stored
 
-CELLS = 4096
+# the cells lent to each flow of a data file; the programs print the answers of the files in this order
+CELLS = {"flows": 4096, "wide": 65536}
+# the length of the record row of a sample, for both
+ROW = 4096
 
 # ---- the flows, by topic and name
 
 TOPICS = {}
+
+
+def file_of(topic):
+    """The data file in which the flows of a topic stand."""
+    return "wide" if topic.startswith("wide") else "flows"
 
 
 def case(topic, name, text):
@@ -158,40 +166,68 @@ case("shapes", "every-word", flow("2,1,2", "read,2,1,+,end", "put,1,1,+", "copy,
 
 # the texts that are turned back
 for name, text in [("word", "flow,1,0,1\n1,halt\n"), ("count", "flow,1,0,1\n1,nop\n"), ("number", "flow,1,0,1\n1,nop,01\n"),
-                   ("turn", "flow,1,0,1\n2,stop\n"), ("range", "flow,1,0,1\n1,set,1001,1,1\n"), ("target", "flow,1,0,1\n1,nop,2\n"),
+                   ("turn", "flow,1,0,1\n2,stop\n"), ("range", "flow,1,0,1\n1,set,10000,1,1\n"), ("target", "flow,1,0,1\n1,nop,2\n"),
                    ("only-line-1", "flow,1,0,1\n"), ("tapes", "flow,4,0,1\n1,stop\n")]:
     case("turned-back", name, text)
 
 
-# the largest constants; a record has to be one number of 2,001
+# the largest constants; a record has to be one number of 2,001, or of 19,999
 def exactly(c, before="read,1,1,+,end"):
     return [before, f"over,{c - 1},1,+,end", f"under,1,{c + 1},+,end"]
 
 
-case("constants", "only-1000", flow("1,0,1", *exactly(999), "end: stop"))
-case("constants", "only-minus-1000", flow("1,0,1", "read,1,1,+,end", "over,-1000,1,end,+", "under,1,-1000,end,end", "end: stop"))
-case("constants", "over-1000", flow("1,0,1", "read,1,1,+,end", "over,1000,1,+,end", "over,1000,1,end,never", "never: nop,end", "end: stop"))
-case("constants", "under-minus-1000", flow("1,0,1", "read,1,1,+,end", "under,1,-1000,+,end", "over,-1000,1,never,end", "never: nop,end", "end: stop"))
-case("constants", "both-ends", flow("1,0,1", "read,1,1,+,end", "over,-1000,1,+,end", "under,1,1000,end,end", "end: stop"))
-case("constants", "set-both", flow("1,0,2", "set,-1000,1,+", "set,1000,2,+", "less,1,2,+,end", "over,1000,2,end,+", "under,1,-1000,end,end", "end: stop"))
-case("constants", "last-in-1001", flow("1,0,1", "read,1,1,+,end", "under,1,0,end,+", "over,999,1,+,end", "under,1,1000,end,end", "end: stop"))
-case("constants", "third-in-2001", flow("1,0,1", "read,1,1,+,end", "under,1,-998,+,end", "over,-1000,1,+,end", "over,-999,1,end,end", "end: stop",
-     "set,1000,1,5"))
-case("constants", "too-many-in-two", flow("1,0,2", "read,1,1,+,end", "read,1,2,+,end", "over,1000,1,end,+", "under,2,-1000,end,end", "end: stop"))
-case("constants", "two-above-1000", flow("1,0,2", "read,1,1,+,end", "over,1000,1,+,end", "copy,1,2,+", "set,0,1,+", "stop", "end: stop"))
-case("constants", "one-in-2001-three-times", flow("1,0,1", *exactly(-999), *exactly(999), "read,1,1,+,end", "end: stop"))
+def largest(c):
+    """Flows with c or -c among their constants, or both, by name."""
+    return {
+        f"only-{c}": flow("1,0,1", *exactly(c - 1), "end: stop"),
+        f"only-minus-{c}": flow("1,0,1", "read,1,1,+,end", f"over,-{c},1,end,+", f"under,1,-{c},end,end", "end: stop"),
+        f"over-{c}": flow("1,0,1", "read,1,1,+,end", f"over,{c},1,+,end", f"over,{c},1,end,never", "never: nop,end", "end: stop"),
+        f"under-minus-{c}": flow("1,0,1", "read,1,1,+,end", f"under,1,-{c},+,end", f"over,-{c},1,never,end", "never: nop,end", "end: stop"),
+        "both-ends": flow("1,0,1", "read,1,1,+,end", f"over,-{c},1,+,end", f"under,1,{c},end,end", "end: stop"),
+        "set-both": flow("1,0,2", f"set,-{c},1,+", f"set,{c},2,+", "less,1,2,+,end", f"over,{c},2,end,+", f"under,1,-{c},end,end",
+                         "end: stop"),
+        f"last-in-{c + 1}": flow("1,0,1", "read,1,1,+,end", "under,1,0,end,+", f"over,{c - 1},1,+,end", f"under,1,{c},end,end",
+                                 "end: stop"),
+        f"third-in-{2 * c + 1}": flow("1,0,1", "read,1,1,+,end", f"under,1,-{c - 2},+,end", f"over,-{c},1,+,end",
+                                      f"over,-{c - 1},1,end,end", "end: stop", f"set,{c},1,5"),
+        "too-many-in-two": flow("1,0,2", "read,1,1,+,end", "read,1,2,+,end", f"over,{c},1,end,+", f"under,2,-{c},end,end", "end: stop"),
+        f"two-above-{c}": flow("1,0,2", "read,1,1,+,end", f"over,{c},1,+,end", "copy,1,2,+", "set,0,1,+", "stop", "end: stop"),
+        f"one-in-{2 * c + 1}-three-times": flow("1,0,1", *exactly(1 - c), *exactly(c - 1), "read,1,1,+,end", "end: stop"),
+    }
+
+
+for name, text in largest(1000).items():
+    case("constants", name, text)
+# with 4,096 cells these are refused by 9, but for the one without a read; they stand among the wide flows too
+for name, text in largest(9999).items():
+    case("constants-9999", name, text)
+case("constants-9999", "flow-a-unreached", flow("1,0,1", "read,1,1,2,3", "over,5,1,1,3", "stop", "set,9999,1,3"))
+# no read, so few configurations
+case("constants-9999", "set-9999", flow("1,0,1", "set,9999,1,+", "over,9998,1,+,end", "over,9999,1,end,+", "under,1,9999,end,+",
+     "end: stop"))
+case("constants-9999", "set-minus-9999", flow("1,0,1", "set,-9999,1,+", "under,1,-9998,+,end", "under,1,-9999,end,+", "over,-9999,1,end,+",
+     "end: stop"))
+case("constants-9999", "set-four", flow("1,1,4", "set,9999,1,+", "set,-9999,2,+", "set,9998,3,+", "set,-9998,4,+", "less,2,4,+,never",
+     "less,3,1,+,never", "less,4,3,+,never", "less,1,3,never,+", "copy,2,1,+", "less,1,2,never,+", "less,1,4,+,never", "put,1,1,end",
+     "never: less,1,1,end,end", "end: stop"))
+case("constants-9999", "set-1001-and-back", flow("1,0,2", "set,1001,1,+", "set,-1001,2,+", "less,2,1,+,end", "copy,1,2,+", "set,-1001,1,+",
+     "less,2,1,end,+", "over,1000,2,+,end", "under,1,-1000,1,end", "end: stop"))
+case("constants-9999", "unreached-without-read", flow("1,0,1", "over,-9999,1,+,end", "under,1,9999,+,end", "over,0,1,end,+", "end: stop",
+     "set,9999,1,1", "set,-9999,1,1"))
 
 
 # ---- long distances: counters. A variable is a digit; one more is `set`, and after the last digit the next variable is due.
 
 def counter(bases, first=1, loop="again", out="out"):
-    """One more, in variables that start at `first`: then to `loop`, and to `out` if all were at their last digit."""
+    """One more, in variables that start at `first`: then to `loop`, and to `out` if all were at their last digit. A base may be
+    a list of digits instead."""
     lines = []
     for k, base in enumerate(bases):
         v, label = first + k, f"digit{k}" if k else "more"
-        tests = [f"under,{v},{d},to{v}-{d},+" for d in range(1, base)]
-        sets = [f"to{v}-{d}: set,{d},{v},{loop}" for d in range(1, base)]
-        carry = f"set,0,{v},digit{k + 1}" if k + 1 < len(bases) else f"nop,{out}"
+        least, *others = base if isinstance(base, list) else range(base)
+        tests = [f"under,{v},{d},to{v}-{d},+" for d in others]
+        sets = [f"to{v}-{d}: set,{d},{v},{loop}" for d in others]
+        carry = f"set,{least},{v},digit{k + 1}" if k + 1 < len(bases) else f"nop,{out}"
         lines += [f"{label}: {tests[0]}", *tests[1:], carry, *sets]
     return lines
 
@@ -199,6 +235,12 @@ def counter(bases, first=1, loop="again", out="out"):
 def counted(bases):
     """No read at all: the run counts, and takes the last test's exit after all numbers."""
     return flow(f"1,0,{len(bases)}", *(x.replace("again", "more") for x in counter(bases)), f"out: less,{len(bases)},1,+,+", "stop")
+
+
+def counted_with(digits, v):
+    """The same with these digits in v variables, which start at the least of them."""
+    counts = (x.replace("again", "more") for x in counter([digits] * v))
+    return flow(f"1,0,{v}", *(f"set,{digits[0]},{x},+" for x in range(1, v + 1)), *counts, f"out: less,{v},1,+,+", "stop")
 
 
 def checked(bases, digit):
@@ -220,6 +262,9 @@ for name, bases in [("3-digits-of-2", [2, 2, 2]), ("4-digits-of-3", [3, 3, 3, 3]
     case("long", f"counted-{name}", counted(bases))
 for name, bases, digit in [("3-3", [3, 3], 1), ("4-4-second", [4, 4], 2), ("3-3-3-third", [3, 3, 3], 3), ("4-4-4", [4, 4, 4], 1), ("4-5-5", [4, 5, 5], 2), ("12-5", [12, 5], 1)]:
     case("long", f"checked-{name}", checked(bases, digit))
+for name, digits, v in [("2-far", [-9999, 9999], 4), ("3-far", [-9999, 0, 9999], 4), ("5-far", [-9999, -9998, 0, 9998, 9999], 4),
+                        ("7-far", [-9999, -9998, -1001, 0, 1001, 9998, 9999], 3)]:
+    case("long", f"counted-{name}", counted_with(digits, v))
 for base in (4, 9, 20):
     case("long", f"climbing-{base}", climbing(base, 1))
     case("long", f"sinking-{base}", climbing(base, -1))
@@ -227,10 +272,11 @@ for base in (4, 9, 20):
 
 # ---- the limit: 4,096 configurations are reported, 4,097 are refused
 
-def limit(name, text, count):
+def limit(name, text, count, topic="limit"):
     """A flow of so many configurations, brought to the limit and to one past it by `nop` before it."""
-    for more in (CELLS - count, CELLS - count + 1):
-        case("limit", f"{name}-{count + more}", later(more, text))
+    cells = CELLS[file_of(topic)]
+    for more in (cells - count, cells - count + 1):
+        case(topic, f"{name}-{count + more}", later(more, text))
 
 
 limit("one-variable", flow("1,0,1", "read,1,1,+,end", "over,-1000,1,end,+", *["nop,+"] * 30, "end: stop", "set,1000,1,end"), 4068)
@@ -291,15 +337,153 @@ some("chance-three-variables", 15, 5, 2, 3, (10, 16), 0, 1)
 some("chance-64", 10, 6, 2, 1, (64, 64), -9, 9)
 
 
+# ---- wide flows: with 65,536 cells a variable may have 20,001 patterns, one for each number from -9999 to 9999, one above, one below
+
+def unreached(*constants):
+    """Instructions that are never reached; their constants count."""
+    return [f"set,{c},1,end" for c in constants]
+
+
+def patient(head, *lines, constants=()):
+    """Instructions in a chain with few configurations: where a comparison does not hold it is made again for ever, or where it
+    holds if `not` is before it. At the end of a tape the run stops."""
+    def on(i, line):
+        if line.startswith("not "):
+            return f"{line[4:]},{i},+"
+        return line + {"read": ",+,end", "less": f",+,{i}", "over": f",+,{i}", "under": f",+,{i}"}.get(line.split(",")[0], ",+")
+    return flow(head, *(on(i, x) for i, x in enumerate(lines, 1)), "end: stop", *unreached(*constants))
+
+
+def wide_limit(name, at, past, constants, head, *lines):
+    """A flow with a number X in it: 65,536 configurations if X is `at`, 65,537 if it is `past`."""
+    for count, x in ((65536, at), (65537, past)):
+        case("wide-limit", f"{name}-{count}", flow(head, *lines, "end: stop", *unreached(*constants)).replace("X", str(x)))
+
+
+# Three instructions with all 20,001 patterns, and the fourth with those above X, 10,000 - X; 1 for the start, 1 for the end of the
+# tape. 1 + 3 * 20,001 + 5,531 + 1. From the other side 10,000 + X are under X.
+wide_limit("one-variable", 4469, 4468, (-9999, 9999), "1,0,1", "read,1,1,+,end", "nop,+", "over,X,1,+,end", "nop,end")
+wide_limit("under", -4469, -4468, (-9999, 9999), "1,0,1", "read,1,1,+,end", "nop,+", "under,1,X,+,end", "nop,end")
+# -9999 to 9998, and -9998 to 9999: 20,000 patterns, 9,999 - X and 10,000 - X of them above X. 1 + 3 * 20,000 + 5,534 + 1
+wide_limit("one-less-above", 4465, 4464, (-9999, 9998), "1,0,1", "read,1,1,+,end", "nop,+", "over,X,1,+,end", "nop,end")
+wide_limit("one-less-below", 4466, 4465, (-9998, 9999), "1,0,1", "read,1,1,+,end", "nop,+", "over,X,1,+,end", "nop,end")
+# 0 to 9999: 10,002 patterns, 10,000 - X above X. 1 + 6 * 10,002 + 5,522 + 1; and -9999 to 0 from the other side
+wide_limit("from-0", 4478, 4477, (9999,), "1,0,1", "read,1,1,+,end", *["nop,+"] * 4, "over,X,1,+,end", "nop,end")
+wide_limit("to-0", -4478, -4477, (-9999,), "1,0,1", "read,1,1,+,end", *["nop,+"] * 4, "under,1,X,+,end", "nop,end")
+# Those under X, a number below 0, come back to the read, where 0 stands too: 10,001 + X. After it stand 20,001. All of these leave,
+# and 0 twice, at the end of the tape and by the comparison: 20,002 at `nop` and at `stop`. 5,531 + 20,001 + 2 * 20,002
+wide_limit("back-to-the-read", -4470, -4469, (-9999, 9999), "1,0,1", "read,1,1,+,out", "under,1,X,1,out", "out: nop,+")
+# 20,001 before the end of tape 1, 20,001 after it. Of these 2,766 are above 7234; they read tape 2, which leads to all 20,001 or, at
+# its end, keeps the 2,766. 3 * 20,001 + 2 * 2,766
+limit("two-tapes", flow("2,0,1", "read,1,1,1,+", "over,7234,1,+,end", "read,2,1,end,end", "end: stop", *unreached(-9999, 9999)), 65535,
+      "wide-limit")
+# One at each of the three reads and one after the three ends; 20,001 from tape 1, 20,001 from tape 2 after the end of tape 1, and
+# 20,001 from tape 3 after both ends, of which those above X go on, 10,000 - X. 4 + 3 * 20,001 + 5,529
+wide_limit("three-tapes", 4471, 4470, (-9999, 9999), "3,0,1", "read,1,1,end,+", "read,2,1,end,+", "read,3,1,+,end", "over,X,1,end,4")
+# 10,002 patterns. Before the second read all of them and, after the end of tape 1, 0 alone. After it all of them where none or one
+# of the two tapes has ended, and 0 alone where both have. Above 1492 are 8,508. 1 + 10,003 + 3 * 10,002 + 1 + 3 * 8,508
+limit("three-sets", flow("3,0,1", "read,1,1,+,+", "read,2,1,+,+", "over,1492,1,end,3", "end: stop", *unreached(9999)), 65535, "wide-limit")
+# 0 to 9355: 9,358 patterns. All of them stand in the first comparison with one set of ended tapes, in the second with two, in the
+# third with four. 9355 and the one above go on, and at the end of a tape what was there: 1, 3, 7 and 15 with 1, 2, 4 and 8 sets.
+# 7 * 9,358 + 26
+limit("eight-sets", flow("3,0,1", "read,1,1,+,3", "over,9354,1,+,2", "read,2,1,+,5", "over,9354,1,+,4", "read,3,1,+,7",
+      "over,9354,1,+,6", "end: stop", *unreached(9355)), 65532, "wide-limit")
+# Variable 1 above: variable 2 has 19,999 patterns inside, one below and three above, 20,003; and above X 10,002 - X. Each read is
+# met in one configuration, and its end gives one more. 4 + 20,001 + 2 * 20,003 + 5,525
+wide_limit("two-variables", 4477, 4476, (-9999,), "1,0,2", "read,1,1,+,end", "over,9999,1,+,2", "read,1,2,+,end", "nop,+",
+           "over,X,2,+,5")
+# 0 to 9999, each of four variables above the one before: 10,002, 10,004, 10,006 and three times 10,008 patterns; of these 10,006 - X
+# have variable 4 above X. 8 + 10,002 + 10,004 + 10,006 + 3 * 10,008 + 5,492. And -9999 to 0 from the other side
+wide_limit("four-above", 4514, 4513, (), "1,0,4", "read,1,1,+,end", "over,9999,1,+,2", "read,1,2,+,end", "less,1,2,+,4",
+           "read,1,3,+,end", "less,2,3,+,6", "read,1,4,+,end", "nop,+", "nop,+", "over,X,4,+,10")
+wide_limit("four-below", -4514, -4513, (), "1,0,4", "read,1,1,+,end", "under,1,-9999,+,2", "read,1,2,+,end", "less,2,1,+,4",
+           "read,1,3,+,end", "less,3,2,+,6", "read,1,4,+,end", "nop,+", "nop,+", "under,4,X,+,10")
+
+# the flows for most of which 4,096 cells are too few
+for name, text in TOPICS["constants-9999"].items():
+    case("wide", name, text)
+
+# a record has to be one number, or there is none
+for name, lines, constants in [
+    ("exactly-9999", ["over,9998,1", "not over,9999,1"], (-9999,)), ("exactly-minus-9999", ["under,1,-9998", "not under,1,-9999"], (9999,)),
+    ("exactly-9998", ["over,9997,1", "under,1,9999"], (-9999,)), ("exactly-minus-9998", ["over,-9999,1", "under,1,-9997"], (9999,)),
+    ("exactly-1001", ["over,1000,1", "under,1,1002"], (-9999, 9999)), ("exactly-0", ["over,-1,1", "under,1,1"], (-9999, 9999)),
+    ("exactly-minus-1001", ["under,1,-1000", "over,-1002,1"], (-9999, 9999)),
+    ("none-after-9998", ["over,9998,1", "under,1,9999"], (-9999,)),
+    ("none-after-minus-9999", ["over,-9999,1", "under,1,-9998"], (9999,)), ("none-outside-both", ["over,9999,1", "under,1,-9999"], ()),
+    ("none-after-1000", ["under,1,1001", "over,1000,1"], (-9999, 9999)), ("none-above", ["over,9999,1", "not over,9998,1"], (-9999,)),
+    ("none-below", ["under,1,-9999", "not under,1,-9998"], (9999,)), ("only-inside", ["not over,9999,1", "not under,1,-9999"], ()),
+    ("only-above", ["over,9999,1", "not under,1,9999"], (-9999,)), ("only-below", ["under,1,-9999", "not over,-9999,1"], (9999,)),
+]:
+    case("wide", name, patient("1,0,1", "read,1,1", *lines, constants=constants))
+
+# records outside: with both ends among the constants there is room for three reads, with 9999 or -9999 alone for six
+for side in (1, -1):
+    def outside(x):
+        return f"over,9999,{x}" if side > 0 else f"under,{x},-9999"
+
+    def beyond(x, y):
+        return f"less,{x},{y}" if side > 0 else f"less,{y},{x}"
+
+    name, both = ("above", (-9999,)) if side > 0 else ("below", (9999,))
+    first = ["read,1,1", outside(1)]
+    for shape, variables, constants, lines in [
+        ("two", 2, both, ["read,1,2", beyond(1, 2)]),
+        ("two-inwards", 2, both, ["read,1,2", outside(2), beyond(2, 1)]),
+        ("two-equal", 2, both, ["read,1,2", "not less,1,2", "not less,2,1", outside(2)]),
+        ("three", 3, both, ["read,1,2", beyond(1, 2), "read,1,3", beyond(2, 3)]),
+        ("three-inwards", 3, both, ["read,1,2", outside(2), beyond(2, 1), "read,1,3", outside(3), beyond(3, 2)]),
+        ("three-between", 3, both, ["read,1,2", beyond(1, 2), "read,1,3", beyond(1, 3), beyond(3, 2)]),
+        ("three-in-a-circle", 3, both, ["read,1,2", beyond(1, 2), "read,1,3", beyond(2, 3), beyond(3, 1)]),
+        ("four", 4, (), ["read,1,2", beyond(1, 2), "read,1,3", beyond(2, 3), "read,1,4", beyond(3, 4)]),
+        ("four-inwards", 4, (), ["read,1,2", outside(2), beyond(2, 1), "read,1,3", outside(3), beyond(3, 2), "read,1,4", outside(4),
+                                 beyond(4, 3)]),
+        ("four-between", 4, (), ["read,1,2", beyond(1, 2), "read,1,3", beyond(1, 3), beyond(3, 2), "read,1,4", beyond(1, 4), beyond(4, 3)]),
+        ("six-reads", 3, (), ["read,1,2", outside(2), beyond(2, 1)] + ["read,1,3", beyond(2, 3), beyond(3, 1), "copy,3,2"] * 4),
+    ]:
+        case("wide", f"{shape}-{name}", patient(f"1,0,{variables}", *first, *lines, constants=constants))
+    case("wide", f"again-{name}", flow("1,0,2", "read,1,1,+,end", outside(1) + ",+,2", "read,1,2,+,end", beyond(1, 2) + ",+,4",
+         "copy,2,1,3", "end: stop", *unreached(*both)))
+    case("wide", f"kept-{name}", flow("2,0,2", "read,1,1,+,end", outside(1) + ",+,2", "read,1,1,3,+", outside(1) + ",+,4", "copy,1,2,+",
+         "read,2,1,+,end", beyond(2, 1) + ",+,7", "read,1,1,end,+", beyond(2, 1) + ",end,+", "end: stop"))
+
+# some above and others below, from one tape or from three; a fourth variable gets its value by `set` or `copy`
+for name, head, lines in [
+    ("above-and-below", "1,0,2", ["read,1,1", "over,9999,1", "read,1,2", "under,2,-9999", "less,2,1"]),
+    ("below-and-above", "2,0,2", ["read,2,1", "under,1,-9999", "read,1,2", "over,9999,2", "less,1,2"]),
+    ("above-below-above", "3,0,3", ["read,1,1", "over,9999,1", "read,2,2", "under,2,-9999", "read,3,3", "less,1,3"]),
+    ("above-below-below", "3,0,3", ["read,3,1", "over,9999,1", "read,2,2", "under,2,-9999", "read,1,3", "less,3,2"]),
+    ("above-below-inwards", "1,0,3", ["read,1,1", "over,9999,1", "read,1,2", "under,2,-9999", "read,1,3", "over,9999,3", "less,3,1"]),
+    ("below-above-inwards", "1,0,3", ["read,1,1", "under,1,-9999", "read,1,2", "over,9999,2", "read,1,3", "under,3,-9999", "less,1,3"]),
+    ("one-above-two-below-9999", "1,0,4", ["read,1,1", "over,9999,1", "copy,1,2", "read,1,1", "under,1,-9999", "copy,1,3", "read,1,1",
+     "less,1,3", "copy,1,4", "set,9999,1", "less,4,3", "less,3,1", "less,1,2", "not less,2,4"]),
+    ("two-above-one-below-minus-9999", "1,0,4", ["read,1,1", "under,1,-9999", "copy,1,4", "read,1,1", "over,9999,1", "copy,1,3", "read,1,1",
+     "less,3,1", "copy,1,2", "set,-9999,1", "less,4,1", "less,1,3", "less,3,2", "not less,2,4"]),
+    ("two-above-two-below", "2,1,4", ["read,1,1", "over,9999,1", "copy,1,2", "read,2,1", "under,1,-9999", "copy,1,3", "put,1,1", "read,2,1",
+     "less,1,3", "copy,2,4", "not less,2,4", "not less,4,2", "less,3,4", "set,0,2", "less,2,4", "less,3,2"]),
+]:
+    case("wide", name, patient(head, *lines))
+
+# an exit after 4,827 steps, for which the record row is too short
+case("wide", "counted-9-far", counted_with([-9999, -9998, -1001, -1000, 0, 1000, 1001, 9998, 9999], 3))
+
+# by chance
+some("wide-chance", 12, 7, 2, 1, (5, 9), -9999, 9999)
+some("wide-chance-three-tapes", 6, 8, 3, 1, (5, 8), -9999, 9999)
+some("wide-chance-two-variables", 12, 9, 2, 2, (6, 9), -9999, 9999)
+
+
 # ---- the reports, and the searches held to each other
 
 class Found:
     """What the first search finds of a legal flow: the configurations, None past the limit, and the distances."""
 
-    def __init__(self, text):
-        self.text = text
+    def __init__(self, topic, name, text):
+        self.topic, self.name, self.text = topic, name, text
+        self.wide = file_of(topic) == "wide"
+        self.cells = CELLS[file_of(topic)]
         self.program = searches.parse(text)[2]
-        self.count, self.exits = searches.configurations(text, CELLS) or (None, None)
+        self.count, self.exits = searches.configurations(text, self.cells) or (None, None)
 
     def lines(self, told):
         """A line for each exit, by number: what is told of its distance, None for none."""
@@ -314,40 +498,70 @@ class Found:
     def samples(self):
         if self.exits is None:
             return self.lines(lambda d: "refused,9,0")
-        return self.lines(lambda d: f"{d},taken" if d else "none")
+        return self.lines(lambda d: "none" if not d else f"{d},taken" if d <= ROW else "refused,10,0")
 
 
 def by_bounds(found):
     """Holds the second search to the first: the same distances; and whether it saw all, so that each none is one there too."""
     exits, whole = searches.bounds(found.text, 5000)
-    assert found.exits in (None, exits), found.text
+    assert found.exits in (None, exits), found.name
     return whole
 
 
 def by_tapes(found):
     """Holds the third search to the first, where few tapes are many enough: no exit sooner and no configuration more; and whether
-    it came to the same distances and the same configurations."""
+    it came to the same distances and the same configurations. Of a wide flow only tapes of one record are few enough, and only
+    those with one variable are looked at."""
     t, v, program = searches.parse(found.text)
     values = max(searches.constants(program)) - min(searches.constants(program)) + 1 + 2 * v
-    length = max(n for n in range(5) if sum(values ** k for k in range(n + 1)) ** t <= 1500)
-    if found.exits is None or length < 2:
+    most, least, steps = (20002, 1, 9) if found.wide else (1500, 2, 25)
+    length = max(n for n in range(5) if sum(values ** k for k in range(n + 1)) ** t <= most)
+    if found.exits is None or length < least or found.wide and v > 1:
         return False
-    count, exits = searches.tapes(found.text, length, v, 25)
-    assert count <= found.count and all(found.exits[x] <= exits[x] for x in exits), found.text
+    count, exits = searches.tapes(found.text, length, v, steps)
+    assert count <= found.count and all(found.exits[x] <= exits[x] for x in exits), found.name
     return (count, exits) == (found.count, found.exits)
+
+
+# ---- reports that are written by hand, and how their configurations are counted
+
+BY_HAND = {
+    # 1, 20,001, the two above 9998, and at `stop` 9999 and, after the end of the tape, 0
+    "exactly-9999": "report,5,20006 1,p,1 1,m,1 2,p,2 2,m,2 3,p,3 3,m,3",
+    # 1, 20,001, 8,999 numbers under -1000 and the one below, 2
+    "exactly-minus-1001": "report,6,29004 1,p,1 1,m,1 2,p,2 2,m,2 3,p,3 3,m,3",
+    # 1, 20,001, 2, 1
+    "none-after-9998": "report,5,20005 1,p,1 1,m,1 2,p,2 2,m,2 3,p,none 3,m,3",
+    # at the read 0, 9,994 numbers over 5 and the one above; 10,002; at `stop` the 9,996 of the read, 0 to 5 and the one below
+    "flow-a-unreached": "report,4,30001 1,p,1 1,m,1 2,p,2 2,m,2",
+    # no read: each instruction that is run stands in one configuration, all but instruction 13
+    "set-four": "report,14,13 5,p,5 5,m,none 6,p,6 6,m,none 7,p,7 7,m,none 8,p,none 8,m,8 10,p,none 10,m,10 11,p,11 11,m,none "
+                "13,p,none 13,m,none",
+    # a read has 1; after it are 20,001, then 20,003, then the one with equal values and the one with variable 2 farther, then 1; 3
+    "two-equal-below": "report,8,40012 1,p,1 1,m,1 2,p,2 2,m,2 3,p,3 3,m,3 4,p,4 4,m,4 5,p,5 5,m,5 6,p,6 6,m,none",
+    # each of three reads has 1, and its end gives 1; 20,001, 20,003, 20,005; 1
+    "three-above": "report,8,60016 1,p,1 1,m,1 2,p,2 2,m,2 3,p,3 3,m,3 4,p,4 4,m,4 5,p,5 5,m,5 6,p,6 6,m,6",
+    # the same; and 3 and 5 that are outside, before they are compared with each other
+    "three-inwards-below": "report,10,60024 1,p,1 1,m,1 2,p,2 2,m,2 3,p,3 3,m,3 4,p,4 4,m,4 5,p,5 5,m,5 6,p,6 6,m,6 7,p,7 7,m,7 "
+                           "8,p,8 8,m,8",
+    # four reads and four ends; 10,002, 10,004, 10,006, 10,008; 1
+    "four-above": "report,9,40029 1,p,1 1,m,1 2,p,2 2,m,2 3,p,3 3,m,3 4,p,4 4,m,4 5,p,5 5,m,5 6,p,6 6,m,6 7,p,7 7,m,7 8,p,8 8,m,8",
+    # two reads and two ends; 20,001, 20,003; 1 at the last comparison, 1 after it
+    "above-and-below": "report,6,40010 1,p,1 1,m,1 2,p,2 2,m,2 3,p,3 3,m,3 4,p,4 4,m,4 5,p,5 5,m,none",
+}
 
 
 # ---- the files of the two crates
 
 def files():
-    """The data of a crate is a file of all its flows, each with its name before it and an empty line after it. So a text may have no
-    bytes, but no empty line."""
-    made = dict.fromkeys(("test_reports/data/flows", "test_reports/stdout", "test_samples/data/flows", "test_samples/stdout"), "")
+    """The data of a crate are two files of all its flows, each with its name before it and an empty line after it. So a text may have
+    no bytes, but no empty line."""
+    made = {f"{crate}/{name}": "" for crate in ("test_reports", "test_samples") for name in ("data/flows", "data/wide", "stdout")}
     flows = []
-    for topic, texts in TOPICS.items():
+    for topic, texts in sorted(TOPICS.items(), key=lambda x: list(CELLS).index(file_of(x[0]))):
         for name, text in texts.items():
             def add(crate, answer):
-                made[f"{crate}/data/flows"] += f"{topic}/{name}\n{text}\n"
+                made[f"{crate}/data/{file_of(topic)}"] += f"{topic}/{name}\n{text}\n"
                 made[f"{crate}/stdout"] += f"{topic}/{name}\n{answer}"
             assert text == "".join(line + "\n" for line in text.split("\n") if line), name
             read = readings.read(text.encode()).decode()
@@ -357,7 +571,7 @@ def files():
                 add("test_reports", read)
                 continue
             assert searches.parse(text) == searches.parse(read), name
-            flows.append(Found(text))
+            flows.append(Found(topic, name, text))
             add("test_reports", flows[-1].report())
             add("test_samples", flows[-1].samples())
     return made, flows
@@ -365,12 +579,26 @@ def files():
 
 def main():
     made, flows = files()
-    bounded, listed = sum(map(by_bounds, flows)), sum(map(by_tapes, flows))
+    whole = [by_bounds(x) for x in flows]
+    bounded, listed = sum(whole), sum(map(by_tapes, flows))
+    # in these each record is farther out than the one before, without end, and so are the bounds
+    assert [x.name for x, seen in zip(flows, whole) if x.wide and not seen] == ["again-above", "again-below"]
     # no bytes, and the other text of that flow: the one line of the report, and no samples
     assert [(x.report(), x.samples()) for x in flows if x.text in ("", "flow,1,0,1\n1,stop\n")] == [("report,1,1\n", "")] * 2
-    for name, text in TOPICS["limit"].items():
-        assert searches.configurations(text, CELLS + 1)[0] == int(name[-4:]), name
-    assert len(made["test_reports/data/flows"]) <= 131072, "the programs lend a row of that size"
+    for x in flows:
+        if x.topic in ("limit", "wide-limit"):
+            count = int(x.name.rpartition("-")[2])
+            assert (x.exits is None) == (count in (4097, 65537)), x.name
+            assert count == (x.count or searches.configurations(x.text, count)[0]), x.name
+        # the constants that 4,096 cells are too few for: each flow with a read
+        if x.topic == "constants-9999":
+            assert (x.exits is None) == ("read" in x.text), x.name
+    wide = {x.name: x for x in flows if x.topic == "wide"}
+    for name, report in BY_HAND.items():
+        assert wide[name].report() == report.replace(" ", "\n") + "\n", name
+    assert "refused,10,0" in wide["counted-9-far"].samples()
+    for name, content in made.items():
+        assert "/data/" not in name or len(content) <= 131072, "the programs lend a row of that size"
     agreed = f"{len(flows)} flows agree; {bounded} searched whole by bounds, {listed} by all short tapes"
     return stored.compare(["test_reports", "test_samples"], {name: content.encode() for name, content in made.items()}, agreed)
 

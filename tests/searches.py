@@ -75,8 +75,9 @@ def configurations(text, cells):
         if x[0] == "read":
             _, tape, into, p, m = x
             yield "m", (m, ended | {tape}, values)
-            # a record that is read hides the value that was there: one trial for all that agree on the others
-            alike = (i, ended, put_into(values, into, 0))
+            # where a record leads does not depend on the value that was there: one trial for all that agree on the pattern of
+            # the other variables, which is the one with 0 there, a value from C1 to C2
+            alike = (i, ended, pattern(put_into(values, into, 0), low, high))
             if tape not in ended and alike not in tried:
                 tried.add(alike)
                 # room for a whole number between any two values outside, and beyond the last

@@ -1,5 +1,6 @@
 -- Faulty lines with their refusals, computed by the definition: in a line 13 comes before 14, 14 before 15, 15 before 6 and 6 before 5
--- (document 01, "Where a request is turned back"; document 02, T-02). And texts that look empty: only one of no bytes is a flow (T-08).
+-- (document 01, "Where a request is turned back"; document 02, T-02). And texts that look empty: only one of no bytes is a flow (T-08); and
+-- constants on both sides of their limits, and far past them (T-09).
 use mathlib.Core.Path.{_≡_, refl}
 use mathlib.Core.List.{List, [], _∷_, _++_, map}
 use mathlib.Core.Option.{Option, none, some, bind}
@@ -46,11 +47,11 @@ instructions =
     ("", 13) ∷ ("stop", 13) ∷ ("1", 13) ∷ ("1,", 13) ∷ ("1,flow,1,0,1", 13) ∷ ("1,halt", 13) ∷ ("x,halt", 13) ∷ ("9,halt", 13)
     ∷ ("x,halt,01", 13)
     -- the count of fields is wrong for that word
-    ∷ ("1,nop", 14) ∷ ("1,stop,", 14) ∷ ("x,nop", 14) ∷ ("9,nop", 14) ∷ ("x,set,01", 14) ∷ ("1,set,1001,1", 14)
+    ∷ ("1,nop", 14) ∷ ("1,stop,", 14) ∷ ("x,nop", 14) ∷ ("9,nop", 14) ∷ ("x,set,01", 14) ∷ ("1,set,10000,1", 14)
     -- a number is badly written, the line's own, a constant or a target
-    ∷ ("x,nop,1", 15) ∷ ("9,nop,01", 15) ∷ ("1,nop,-1", 15) ∷ ("1,set,-0,1,1", 15) ∷ ("9,set,1001,1,01", 15)
+    ∷ ("x,nop,1", 15) ∷ ("9,nop,01", 15) ∷ ("1,nop,-1", 15) ∷ ("1,set,-0,1,1", 15) ∷ ("9,set,10000,1,01", 15)
     -- it is out of turn; a number is out of its range
-    ∷ ("9,nop,1", 6) ∷ ("9,set,1001,1,1", 6) ∷ ("1,set,1001,1,1", 5)
+    ∷ ("9,nop,1", 6) ∷ ("9,set,10000,1,1", 6) ∷ ("1,set,10000,1,1", 5)
     ∷ []
 
 -- texts with their refusals
@@ -62,6 +63,22 @@ nearlyEmpty =
     ∷ ("flow,1,0,1\n", some (8, 2)) ∷ ("flow,1,0,1\n\n", some (13, 2))
     ∷ []
 
+-- constants, written, and whether a line with one of them is refused
+abbrev constants : List (String × Option (ℕ × ℕ))
+constants =
+    ("-10000", some (5, 2)) ∷ ("-9999", none) ∷ ("-1001", none) ∷ ("-1000", none)
+    ∷ ("1000", none) ∷ ("1001", none) ∷ ("9999", none) ∷ ("10000", some (5, 2))
+    -- numbers that 16, 32 and 64 bits take for 9999, and ten to the power of 40
+    ∷ ("75535", some (5, 2)) ∷ ("4294977295", some (5, 2)) ∷ ("18446744073709561615", some (5, 2))
+    ∷ ("10000000000000000000000000000000000000000", some (5, 2)) ∷ ("-10000000000000000000000000000000000000000", some (5, 2))
+    ∷ ("09999", some (15, 2)) ∷ ("-09999", some (15, 2)) ∷ ("+9999", some (15, 2))
+    ∷ []
+
+-- a constant in each instruction that has one
+abbrev inEach : String → List (Option (ℕ × ℕ))
+inEach c = map (λ (l : List ℕ × List ℕ). refusal (readFlow (bytes "flow,1,0,1\n" ++ l .0 ++ bytes c ++ l .1)))
+    ((bytes "1,set,", bytes ",1,1\n") ∷ (bytes "1,over,", bytes ",1,1,1\n") ∷ (bytes "1,under,1,", bytes ",1,1\n") ∷ [])
+
 -- what a line is refused by, and what it ought to be refused by, at a place
 abbrev found : (String → Option (ℕ × ℕ)) → List (String × ℕ) → List (Option (ℕ × ℕ))
 found judge = map (λ (l : String × ℕ). judge (l .0))
@@ -72,5 +89,6 @@ ought place = map (λ (l : String × ℕ). some (l .1, place))
 pub faulty-lines : (found asHead heads ≡ ought 1 heads)
     × (found asInstruction instructions ≡ ought 2 instructions)
     × (map (λ (t : String × Option (ℕ × ℕ)). asText (t .0)) nearlyEmpty ≡ map (λ (t : String × Option (ℕ × ℕ)). t .1) nearlyEmpty)
-unfolding Read.readFlow Read.readBytes Read.readRest Read.readHead Read.headOf Read.readLines Read.readLine Read.numerals bind Read.all Words.firstNamed Split.lines Split.split Split.parts Split.lead Split.sameWord Number.natural Number.numeral Number.negative Number.digitsAfter
-faulty-lines = (refl, refl, refl)
+    × (map (λ (t : String × Option (ℕ × ℕ)). inEach (t .0)) constants ≡ map (λ (t : String × Option (ℕ × ℕ)). t .1 ∷ t .1 ∷ t .1 ∷ []) constants)
+unfolding Read.readFlow Read.readBytes Read.readRest Read.readHead Read.headOf Read.readLines Read.readLine Read.numerals bind Read.all Words.firstNamed Split.lines Split.split Split.parts Split.lead Split.sameWord Number.natural Number.numeral Number.negative Number.digitsAfter Read.lostTarget
+faulty-lines = (refl, refl, refl, refl)

@@ -12,3 +12,4 @@ pub mod Numbers
 pub mod Places
 pub mod WriteSizeLaws
 pub mod WriteLaws
+pub mod ConstantLaws

@@ -21,7 +21,7 @@ use Rattle.text.proofs.Decimal.{none-no-some, decimal-read, plain-read, signed-
 use Rattle.flow.specs.Limits.{maxTapes, maxOutputs, maxVariables}
 use Rattle.flow.specs.Words.{table, kinds, firstNamed, kindOf, sorts, mayMinus, count, at, built, number}
 use Rattle.flow.specs.inner.Reader.{field}
-use Rattle.flow.specs.Read.{ok, numerals, inRange, all, headOf, readHead, readLine}
+use Rattle.flow.specs.Read.{ok, check, numerals, inRange, all, headOf, readHead, readLine}
 use Rattle.flow.specs.Code.{kind, numbers}
 use Rattle.flow.specs.inner.Reader.{HeadFits}
 use Rattle.flow.proofs.RowLaws.{placed}
@@ -29,6 +29,7 @@ use Rattle.flow.specs.Write.{word, headFields, lineFields}
 use Rattle.flow.specs.declared.Kind.{Kind}
 use Rattle.flow.specs.declared.Sort.{Sort}
 use Rattle.flow.specs.declared.Head.{Head}
+use Rattle.flow.specs.declared.Refusal.the-variants.{OutOfRange}
 use Rattle.flow.proofs.HeadLaws.{HeadRead, head-read}
 use Rattle.flow.proofs.SortLaws.{number-field}
 use Rattle.flow.proofs.RowLaws.{tried, kind-built, fields-built, word-known, parts-built}
@@ -57,14 +58,16 @@ placed-length (s ∷ ss) zs j = ap suc (placed-length ss zs (suc j))
 pub fields-placed : (x : Instruction) → fields x ≡ placed (sorts (kind x)) (numbers x) 0
 fields-placed x = ap fields (sym (parts-built x)) ∙ fields-built (numbers x) (kind x)
 
-pub line-fields-read : (h : Head) (i : ℕ) (x : Instruction) → all (inRange h) (fields x) ≡ true → readLine h i (lineFields i x) ≡ ok x
+-- the line of an instruction is judged by its ranges alone
+pub line-fields-read : (h : Head) (i : ℕ) (x : Instruction)
+    → readLine h i (lineFields i x) ≡ check (all (inRange h) (fields x)) (OutOfRange (i + 1)) (ok x)
 unfolding readLine
-line-fields-read h i x fit =
+line-fields-read h i x =
     let k = kind x in
     let read : numerals (sorts k) (map signed (numbers x)) ≡ some (numbers x) = rw (fields-placed x) (numbers-read (sorts k) (numbers x) 0) in
     let places : length (fields x) ≡ length (sorts k) = ap length (fields-placed x) ∙ placed-length (sorts k) (numbers x) 0 in
     let wide : suc (suc (length (map signed (numbers x)))) ≡ length (sorts k) + 2 = omega (arith, length-map (numbers x) signed, length-map (fields x) number) in
-    rw (word-known k, eq-eqb _ _ wide, decimal-read i, read, eq-eqb i i refl, parts-built x, fit)
+    rw (word-known k, eq-eqb _ _ wide, decimal-read i, read, eq-eqb i i refl, parts-built x)
 
 pub head-fields-read : (h : Head) → HeadFits h → readHead (headFields h) ≡ ok h
 unfolding readHead headOf sameWord

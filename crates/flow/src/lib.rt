@@ -112,9 +112,9 @@ impl Flow {
 
     pub const VARIABLES: usize = Flow::MAX_VARIABLES as usize;
 
-    pub const LEAST_CONSTANT: i32 = -1000;
+    pub const LEAST_CONSTANT: i32 = -9999;
 
-    pub const GREATEST_CONSTANT: i32 = 1000;
+    pub const GREATEST_CONSTANT: i32 = 9999;
 
     // The counts of line 1, if they lie in their ranges.
     pub fn head(tapes: u8, outputs: u8, variables: u8) -> Headed

@@ -5,7 +5,7 @@ use mathlib.Core.List.{List}
 use Prim.Native.Nat.{ℕ, zero, suc, _+_, _-_, _≤_, _<_}
 use native.Mathlib.Omega.{arith}
 use native.Mathlib.Decide.{decLt}
-use lib.IntN.{ℤ, pos, negsuc}
+use lib.IntN.{ℤ}
 use lib.Signed.{leZ}
 use lib.Dec.{T}
 use lib.ListN.{length, getD}
@@ -13,12 +13,13 @@ use Rattle.model.specs.Language.{Flow, instruction, hasExits}
 use Rattle.model.specs.Machine.{exitIf}
 use Rattle.model.specs.Distance.{Distance}
 use Rattle.model.proofs.Integers.{zarith}
-use Rattle.flow.specs.Limits.{maxInstructions}
+use Rattle.flow.specs.Limits.{maxInstructions, leastConstant, greatestConstant}
 use Rattle.flow.specs.declared.Refusal.the-variants.{ShortRow}
 use Rattle.configuration.specs.inner.Op.{opOf}
 use Rattle.configuration.specs.inner.Pattern.{Width}
 use Rattle.configuration.specs.declared.Op.{Op}
-use Rattle.configuration.proofs.Fitting.{fit-legal, legal-limited}
+use Rattle.flow.proofs.ConstantLaws.{legal-limited}
+use Rattle.configuration.proofs.Fitting.{fit-legal}
 use Rattle.configuration.specs.inner.Fits.{FlowFits}
 use Rattle.cells.specs.inner.Columns.{placeField, patternField, distanceField, parentField, bucketField, wayField, column, columnsOf, Only}
 use Rattle.cells.specs.inner.Entries.{Entries, entries, entriesOf, distanceOf}
@@ -109,11 +110,11 @@ module _ {flow : Flow} {e : Entries} {n room : ℕ} {ops : List Op} {w : ℕ} {l
   complete : Complete lo w flow e n
   complete = rw (t .low) (t .complete)
 
-  low : T (leZ (negsuc 9998) lo)
-  low = let l = legal-limited flow (t .legal) .0 .0 in rw (t .low) (omega zarith)
+  low : T (leZ leastConstant lo)
+  low = rw (t .low) (legal-limited flow (t .legal) .0 .0)
 
-  high : T (leZ hi (pos 9999))
-  high = let l = legal-limited flow (t .legal) .1 .1 in rw (t .high) (omega zarith)
+  high : T (leZ hi greatestConstant)
+  high = rw (t .high) (legal-limited flow (t .legal) .1 .1)
 
   pub tabled-first : 1 ≤ i
   tabled-first = exits-first flow i (t .wanted)

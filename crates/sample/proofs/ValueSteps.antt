@@ -25,7 +25,7 @@ use Rattle.model.specs.inner.Runs.{wider}
 use Rattle.sample_row.specs.inner.Reading.{silentValues, silentAfter}
 use Rattle.sample_row.specs.declared.Walk.{Walk}
 use Rattle.sample_row.proofs.Followed.{SilentStep}
-use Rattle.configuration.specs.inner.Pattern.{lanes, valuesOf}
+use Rattle.configuration.specs.inner.Pattern.{maxWidth, lanes, valuesOf}
 use Rattle.configuration.specs.inner.Place.{atOf, endsOf, goOf, finishOf, configurationOf}
 use Rattle.configuration.specs.inner.Op.{offset, opOf}
 use Rattle.configuration.specs.inner.Step.{endedOf, nextBy, nextOf, takeOf, wordExitOf}
@@ -86,26 +86,26 @@ module _ (w : ℕ) (o : Op) (x : Words) where
 
 -- ---- a prepared instruction of the flow names its own
 module _ {lo hi : ℤ} {w : ℕ} {flow : Flow} (f : FlowFits lo hi w flow) where
-  small : (c : ℤ) → Inside lo hi c → offset c lo < 20000
+  small : (c : ℤ) → Inside lo hi c → offset c lo < maxWidth
   small c h = let few = f .span .width .few in omega (arith, inside-real (f .span) c h .0)
 
   lane-small : (v : ℕ) → v < flow .variables → v < 4
   lane-small v h = let few = f .variables in omega arith
 
-  plain : (v : ℕ) (o : Op) → o .tape ≡ 0 → o .variable ≡ v → v < 4 → o .constant < 20000 → OpFits o
+  plain : (v : ℕ) (o : Op) → o .tape ≡ 0 → o .variable ≡ v → v < 4 → o .constant < maxWidth → OpFits o
   plain v o a b h k = record { tape = omega arith; variable = omega arith; constant = k }
 
-  fine : (o : Op) (v : View) → Means lo o v → SoundView lo hi flow v → o .constant < 20000 → OpFits o
+  fine : (o : Op) (v : View) → Means lo o v → SoundView lo hi flow v → o .constant < maxWidth → OpFits o
   fine o v (means-reads a u p m) h k = let few = f .tapes in record { tape = omega (arith, h .0); variable = lane-small u (h .1); constant = k }
   fine o v (means-sets t u n i c e) h k = plain u o refl refl (lane-small u (h .1)) k
   fine o v (means-tests s t p m i j c e e′) h k = plain 0 o refl refl (omega arith) k
   fine o v (means-goes n) h k = plain 0 o refl refl (omega arith) k
   fine o v means-stops h k = plain 0 o refl refl (omega arith) k
 
-  constant-small : (i : Instruction) → ((c : ℤ) → In c (constants (fields i)) → Inside lo hi c) → opOf lo i .constant < 20000
+  constant-small : (i : Instruction) → ((c : ℤ) → In c (constants (fields i)) → Inside lo hi c) → opOf lo i .constant < maxWidth
   constant-small i h = rw (op-constant lo i) (by (constants (fields i)) h)
     where
-      by : (cs : List ℤ) → ((c : ℤ) → In c cs → Inside lo hi c) → getD (map (λ c. offset c lo) cs) 0 0 < 20000
+      by : (cs : List ℤ) → ((c : ℤ) → In c cs → Inside lo hi c) → getD (map (λ c. offset c lo) cs) 0 0 < maxWidth
       by [] g = omega arith
       by (c ∷ cs) g = small c (g c (inl refl))
 

@@ -5,13 +5,14 @@ use mathlib.Core.Bool.{Bool, true}
 use mathlib.Core.List.{List}
 use Prim.Native.Nat.{ℕ, suc, _<_}
 use native.Mathlib.Omega.{arith}
-use lib.IntN.{ℤ, pos, negsuc}
+use lib.IntN.{ℤ}
 use lib.ListN.{length}
 use lib.Signed.{leZ}
 use lib.Dec.{T}
 use Rattle.model.specs.Language.{Flow, instruction}
 use Rattle.model.specs.Machine.{exitIf}
 use Rattle.model.specs.Distance.{Distance}
+use Rattle.flow.specs.Limits.{leastConstant, greatestConstant}
 use Rattle.configuration.specs.inner.Place.{atOf}
 use Rattle.configuration.specs.inner.Op.{opOf}
 use Rattle.configuration.specs.inner.Step.{takesOf}
@@ -32,7 +33,7 @@ use Rattle.sample.specs.inner.Sampling.{course, CourseLeads, endOf, Ends
 module _ {lo hi : ℤ} {w : ℕ} {flow : Flow} (f : FlowFits lo hi w flow) {e : Entries} {n : ℕ} (t : Complete lo w flow e n)
     (ps : Parents (e .distances) (e .parents) n) {path : List ℕ} {at last : ℕ} (way : Traced (e .distances) (e .parents) path n at last)
     (ops : List Op) where
-  pub traced-leads : T (leZ (negsuc 9998) lo) → T (leZ hi (pos 9999)) → Prepared lo flow ops
+  pub traced-leads : T (leZ leastConstant lo) → T (leZ hi greatestConstant) → Prepared lo flow ops
       → Walkable (e .places) (e .patterns) (e .distances) n → last < length path
       → CourseLeads (course (e .places) (e .patterns) path last ops w lo hi) flow
   traced-leads low high prepared walk room = record {

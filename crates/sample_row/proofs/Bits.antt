@@ -1,5 +1,5 @@
--- Every number that is written has 32 bits. A number that may move has both neighbours among them, and what lies near constants of four
--- digits, after as many reads as there may be, may move.
+-- Every number that is written has 32 bits. A number that may move has both neighbours among them, and what lies near C1 to C2, after as
+-- many reads as there may be, may move: C1 and C2 keep to the limits of constants.
 use mathlib.Core.List.{List}
 use Prim.Native.Nat.{ℕ, _+_, _≤_, _<_}
 use native.Mathlib.Omega.{arith}

@@ -1,6 +1,7 @@
-// Asks for a sample of every exit of each flow of data/flows, and runs it. A line says the exit's distance, or none. After a distance it
-// says `taken` if the run of the sample takes the exit with the last of that many steps and not before, and reads all records of the
-// sample, and if the rest of the row is as it was. The flows, and the answers in stdout, are made by tests/reports.py.
+// Asks for a sample of every exit of each flow of data/flows, and of data/wide with a maker's cells lent, and runs it. A line says the
+// exit's distance, or none. After a distance it says `taken` if the run of the sample takes the exit with the last of that many steps and
+// not before, and reads all records of the sample, and if the rest of the row is as it was. The flows, and the answers in stdout, are made
+// by tests/reports.py.
 ghost use Prim.Native.Nat.{_<_};
 ghost use Rattle.flow.specs.Limits.{maxInstructions};
 use flow::Flow;
@@ -14,7 +15,7 @@ use tape_maker::SampleEnd;
 // The cells of the record row before a sample is asked for; no record of a sample is so large.
 const BLANK: i32 = 77777;
 
-// The work cells, and the cells of the record row and of the output rows.
+// The work cells of data/flows, and the cells of the record row and of the output rows.
 const CELLS: usize = 4096;
 
 // Whether the cells of a row from one on are blank.
@@ -29,9 +30,21 @@ fn blank_from(row: &[i32], from: usize) -> bool {
     true
 }
 
-fn ask(text: &[u8], i: usize, p: bool, row: &mut [i32]) -> SampleAnswer {
+fn ask_few(text: &[u8], i: usize, p: bool, row: &mut [i32]) -> SampleAnswer {
     let mut cells = [[0u32; Cell::WORDS]; CELLS];
     tape_maker::sample(text, i, p, &mut cells, row)
+}
+
+fn ask_maker(text: &[u8], i: usize, p: bool, row: &mut [i32]) -> SampleAnswer {
+    let mut cells = [[0u32; Cell::WORDS]; test_show::MAKERS_CELLS];
+    tape_maker::sample(text, i, p, &mut cells, row)
+}
+
+fn ask(text: &[u8], i: usize, p: bool, wide: bool, row: &mut [i32]) -> SampleAnswer {
+    if wide {
+        return ask_maker(text, i, p, row);
+    }
+    ask_few(text, i, p, row)
 }
 
 fn run(text: &[u8], limit: u64, records: &[i32], lengths: &[usize]) -> RunAnswer {
@@ -151,11 +164,11 @@ fn print_end(p: bool, yes: &[u8], no: &[u8]) {
 }
 
 // The line of an exit of instruction i + 1; no line where the instruction has no two exits.
-fn print_sample(text: &[u8], f: Flow, i: usize, p: bool)
+fn print_sample(text: &[u8], f: Flow, i: usize, p: bool, wide: bool)
     requires { ⌜ i < maxInstructions ⌝ }
 {
     let mut row = [BLANK; CELLS];
-    let a = ask(text, i + 1, p, &mut row);
+    let a = ask(text, i + 1, p, wide, &mut row);
     let end = a.end;
     match end {
         SampleEnd::Taken => {
@@ -185,21 +198,21 @@ fn print_sample(text: &[u8], f: Flow, i: usize, p: bool)
     }
 }
 
-fn print_samples(text: &[u8]) {
+fn print_samples(text: &[u8], wide: bool) {
     let reading = reader::read(text);
     let f = reading.flow;
     let mut i = 0;
     while i < Flow::MAX_INSTRUCTIONS {
         if i < f.count {
-            print_sample(text, f, i, true);
-            print_sample(text, f, i, false);
+            print_sample(text, f, i, true, wide);
+            print_sample(text, f, i, false, wide);
         }
         i += 1;
     }
 }
 
 // The samples of the flows of a file.
-fn print_flows(file: &[u8]) {
+fn print_flows(file: &[u8], wide: bool) {
     let mut at = 0;
     while at < file.len() {
         let case = test_cases::next(file, at);
@@ -208,15 +221,20 @@ fn print_flows(file: &[u8]) {
         let end = case.end;
         test_show::print(&file[at..named]);
         test_show::print(b"\n");
-        print_samples(&file[start..end]);
+        print_samples(&file[start..end], wide);
         at = end + 1;
     }
 }
 
-fn main() {
+fn print_file(name: &[u8], wide: bool) {
     let mut file = [0u8; 131072];
-    let fd = os::open_read(b"flows");
+    let fd = os::open_read(name);
     let n = io::read_full(fd, &mut file);
     libc::close(fd);
-    print_flows(&file[..n]);
+    print_flows(&file[..n], wide);
+}
+
+fn main() {
+    print_file(b"flows", false);
+    print_file(b"wide", true);
 }

@@ -2,6 +2,7 @@
 // nothing to speak of. The program `report` calls none of them: it prints the row of `render::report_of`, which is proved.
 use flow::Refusal;
 use libc::STDOUT_FILENO;
+use tape_maker::Cell;
 use tape_maker::ReportAnswer;
 
 pub fn print(bytes: &[u8]) {
@@ -45,4 +46,13 @@ pub fn report_of(text: &[u8]) {
     let mut lines = [0u8; render::REPORT_BYTES];
     let n = render::report_of(text, &mut lines);
     print(&lines[0..n]);
+}
+
+// The cells that a maker lends for constants that lie far apart; more do not count.
+pub const MAKERS_CELLS: usize = 65536;
+
+// The report of a flow, with so many cells lent.
+pub fn report_of_maker(text: &[u8]) {
+    let mut cells = [[0u32; Cell::WORDS]; MAKERS_CELLS];
+    report(tape_maker::report(text, &mut cells));
 }

@@ -135,7 +135,8 @@ pub struct SampleCase {
     pub row: usize,
 }
 
-pub fn sample(rng: &mut Rng, text: &[u8], known: &Known, cells: &mut Lent<Words>, case: &SampleCase) -> Checked {
+/// The check, and the records of a sample that is given and judged right.
+pub fn sample(rng: &mut Rng, text: &[u8], known: &Known, cells: &mut Lent<Words>, case: &SampleCase) -> (Checked, Vec<i32>) {
     // Any number but 0 asks for exit p.
     let exit = if case.exit { *rng.pick(&[1, 1, 2, 255]) } else { 0 };
     let mut bytes = Lent::of(rng, text);
@@ -149,6 +150,7 @@ pub fn sample(rng: &mut Rng, text: &[u8], known: &Known, cells: &mut Lent<Words>
         )
     };
     let mut faults = vec![bytes.changed("text")];
+    let mut judged = Vec::new();
     let given = known.as_ref().map_err(|why| *why).and_then(|(flow, census)| {
         let distance = wanted(flow, case.instruction, case.exit, searched(census, cells.len()), case.row)?;
         Ok(distance.map(|d| (flow, d)))
@@ -174,13 +176,16 @@ pub fn sample(rng: &mut Rng, text: &[u8], known: &Known, cells: &mut Lent<Words>
                 let found = sample_faults(flow, case.instruction, case.exit, d, row.now(), &lengths);
                 if found.is_empty() {
                     faults.extend(handed_on(rng, text, row.now(), records, d, &lengths[..flow.tapes]));
+                    judged = records.to_vec();
                 }
                 faults.extend(found.into_iter().map(Some));
             }
             Ok("given")
         }
     };
-    checked(returned, outcome, faults)
+    let checked = checked(returned, outcome, faults);
+    let right = checked.faults.is_empty();
+    (checked, if right { judged } else { Vec::new() })
 }
 
 /// A sample handed on with its T lengths: to the helper, for every tape, tape 0 and tape T + 1, and to a run.

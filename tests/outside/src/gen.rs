@@ -3,6 +3,9 @@
 use crate::documents::flow::{Flow, Instruction};
 use crate::rng::Rng;
 
+/// Constants at and near the ends of their range: both ends, one, and values beside them.
+const ENDS: [&[i64]; 7] = [&[-9999, 9999], &[9999], &[-9999], &[9998, 9999], &[-9999, -9998], &[1000, 1001], &[-1001, -1000]];
+
 /// The constants that a flow draws from: few different ones, so that they meet.
 fn palette(rng: &mut Rng, variables: usize) -> Vec<i64> {
     let (lo, hi) = match rng.below(20) {
@@ -12,12 +15,12 @@ fn palette(rng: &mut Rng, variables: usize) -> Vec<i64> {
         16 => (3, 5),
         17 => (-30, -20),
         18 if variables <= 2 => (-60, 70),
-        19 if variables == 1 || rng.percent(8) => (-1000, 1000),
+        19 if variables == 1 || rng.percent(8) => *rng.pick(&[(-1000, 1000), (-9999, 9999), (0, 9999), (-9999, 0)]),
         _ => (-2, 1),
     };
     let mut constants: Vec<i64> = (0..1 + rng.below(4)).map(|_| rng.from(lo, hi)).collect();
-    if hi == 1000 && rng.percent(50) {
-        constants.extend([-1000, 1000]);
+    if hi - lo > 1000 && rng.percent(50) {
+        constants.extend(*rng.pick(&ENDS));
     }
     constants
 }
@@ -130,7 +133,7 @@ fn chain(rng: &mut Rng) -> Flow {
 fn orders(rng: &mut Rng) -> Flow {
     let tapes = 1 + rng.below(3);
     let variables = 2 + rng.below(3);
-    let c = if rng.percent(95) { rng.from(-2, 3) } else { rng.from(-1000, 1000) };
+    let c = if rng.percent(95) { rng.from(-2, 3) } else { rng.from(-9999, 9999) };
     let mut instructions = Vec::new();
     for round in 0..1 + rng.below(3) {
         for v in 1..=variables {
@@ -174,7 +177,8 @@ fn orders(rng: &mut Rng) -> Flow {
 /// Constants far apart, set, copied and compared with the one variable that is read.
 fn far_apart(rng: &mut Rng) -> Flow {
     let variables = 2 + rng.below(3);
-    let (far, near) = (rng.from(100, 1000), rng.from(0, 9));
+    let far = if rng.percent(90) { rng.from(100, 1000) } else { rng.from(1001, 9999) };
+    let near = rng.from(0, 9);
     let constants = if rng.percent(50) { [-far, near, near - 1] } else { [far, -near, 1 - near] };
     let steps = 3 + rng.below(10);
     let stop = steps + 1;
@@ -205,7 +209,7 @@ fn far_apart(rng: &mut Rng) -> Flow {
 fn squeeze(rng: &mut Rng) -> Flow {
     let tapes = 1 + rng.below(3);
     let levels = 1 + rng.below(14);
-    let far = if rng.percent(95) { rng.from(-4, 4) } else { rng.from(-1000, 1000) };
+    let far = if rng.percent(95) { rng.from(-4, 4) } else { rng.from(-9999, 9999) };
     let up = rng.percent(50);
     let stop = 4 + 4 * levels;
     let mut instructions = vec![Instruction::Read { tape: 1, v: 1, p: 2, m: stop }, Instruction::Read { tape: 1, v: 2, p: 3, m: stop }];
@@ -271,6 +275,156 @@ pub fn edge(n: usize) -> Flow {
     Flow { tapes: 1, outputs: 0, variables: 2, instructions }
 }
 
+/// One read, with all 20,001 patterns that one variable can have: 65,535 + n configurations. They are 1, 20,001, 20,001, 10,000 - c, and at
+/// the end 20,001 and 1.
+pub fn edge_of_one(n: i64) -> Flow {
+    let c = 4470 - n;
+    let instructions = vec![
+        Instruction::Read { tape: 1, v: 1, p: 2, m: 5 },
+        Instruction::Under { v: 1, c: -9999, p: 3, m: 3 },
+        Instruction::Over { c, v: 1, p: 4, m: 5 },
+        Instruction::Over { c: 9999, v: 1, p: 5, m: 5 },
+        Instruction::Stop,
+    ];
+    Flow { tapes: 1, outputs: 0, variables: 1, instructions }
+}
+
+/// Two reads, the first record above 9999: 65,535 + n configurations. They are 1, 20,001, 1, 20,003, 10,000 + c, and at the end 20,003 and
+/// 2.
+pub fn edge_of_two(n: i64) -> Flow {
+    let c = n - 4476;
+    let instructions = vec![
+        Instruction::Read { tape: 1, v: 1, p: 2, m: 6 },
+        Instruction::Over { c: 9999, v: 1, p: 3, m: 2 },
+        Instruction::Read { tape: 2, v: 2, p: 4, m: 6 },
+        Instruction::Under { v: 2, c, p: 5, m: 6 },
+        Instruction::Under { v: 2, c: -9999, p: 6, m: 6 },
+        Instruction::Stop,
+    ];
+    Flow { tapes: 2, outputs: 0, variables: 2, instructions }
+}
+
+/// Four reads, each record farther out than the one before, above 9999 or below -9999, and n + 2 times `nop` before them: 65,535 + n
+/// configurations. With w = 16,376 they are 1 at each `nop` and read, w + 2, w + 4, w + 6 and w + 8 at the comparisons, and 1 and 4 at the
+/// end.
+pub fn edge_of_four(n: usize, above: bool) -> Flow {
+    let stop = n + 11;
+    let mut instructions: Vec<Instruction> = (1..n + 3).map(|i| Instruction::Nop { n: i + 1 }).collect();
+    for v in 1..=4 {
+        let (read, p) = (instructions.len() + 1, instructions.len() + 3);
+        instructions.push(Instruction::Read { tape: 1, v, p: read + 1, m: stop });
+        instructions.push(match (v, above) {
+            (1, true) => Instruction::Over { c: 9999, v, p, m: read + 1 },
+            (1, false) => Instruction::Under { v, c: -9999, p, m: read + 1 },
+            (_, true) => Instruction::Less { u: v - 1, v, p, m: read + 1 },
+            (_, false) => Instruction::Less { u: v, v: v - 1, p, m: read + 1 },
+        });
+    }
+    instructions.extend([Instruction::Stop, Instruction::Set { c: if above { -6376 } else { 6376 }, v: 1, n: stop }]);
+    Flow { tapes: 1, outputs: 0, variables: 4, instructions }
+}
+
+/// A counter of four digits, then a record that must lie beyond 9999 or -9999: its bound, a constant and the distance, passes 16 bits.
+pub fn late(above: bool) -> Flow {
+    let mut flow = counter(&[8; 4], 0);
+    let i = flow.instructions.len() - 1;
+    flow.instructions.truncate(i - 1);
+    flow.instructions.push(Instruction::Read { tape: 1, v: 1, p: i + 1, m: i + 2 });
+    flow.instructions.push(if above {
+        Instruction::Over { c: 9999, v: 1, p: i + 2, m: i + 1 }
+    } else {
+        Instruction::Under { v: 1, c: -9999, p: i + 2, m: i + 1 }
+    });
+    flow.instructions.push(Instruction::Stop);
+    flow
+}
+
+/// C1 and C2 so far apart that the patterns of one variable, so many times, come to some thousand up to a bit past 65,536.
+fn far_bounds(rng: &mut Rng, times: usize) -> (i64, i64) {
+    let most = (67_000 / times as i64).min(19_999);
+    let w = if rng.percent(25) { rng.from(1002.min(most), most) } else { rng.from(most - most / 10, most) };
+    let (least, greatest) = ((1 - w).max(-9999), (10_000 - w).min(0));
+    let between = rng.from(least, greatest);
+    let lo = *rng.pick(&[least, greatest, between]);
+    (lo, lo + w - 1)
+}
+
+/// A read to the one variable and up to four instructions more, most of them comparisons.
+fn of_one(rng: &mut Rng) -> Flow {
+    let (tapes, count) = (1 + rng.below(3), 3 + rng.below(4));
+    let times = 2 + rng.below(count - 1);
+    let (lo, hi) = far_bounds(rng, times);
+    let mut ends = if rng.percent(50) { vec![lo, hi] } else { vec![hi, lo] };
+    let mut constants = vec![lo, lo + 1, hi - 1, hi, rng.from(lo, hi), rng.from(lo, hi)];
+    constants.extend(rng.pick(&ENDS).iter().filter(|c| (lo..=hi).contains(c)));
+    let mut draw = Draw { rng, tapes, outputs: 1, variables: 1, count, constants };
+    let mut instructions = vec![Instruction::Read { tape: 1, v: 1, p: 2, m: draw.target(1) }];
+    for i in 2..count {
+        let (c, p, m) = (draw.constant(), draw.target(i), draw.target(i));
+        instructions.push(match draw.rng.below(10) {
+            0 => Instruction::Read { tape: 1 + draw.rng.below(tapes), v: 1, p, m },
+            1 => Instruction::Put { v: 1, output: 1, n: p },
+            2 => Instruction::Set { c: ends.pop().unwrap_or(c), v: 1, n: p },
+            3..=5 => Instruction::Under { v: 1, c: ends.pop().unwrap_or(c), p, m },
+            _ => Instruction::Over { c: ends.pop().unwrap_or(c), v: 1, p, m },
+        });
+    }
+    instructions.push(Instruction::Stop);
+    Flow { tapes, outputs: 1, variables: 1, instructions }
+}
+
+/// Reads to two variables or more, each with a filter that leaves few patterns, then comparisons.
+fn filtered(rng: &mut Rng) -> Flow {
+    let (tapes, variables) = (1 + rng.below(3), 2 + rng.below(3));
+    // A record that does not pass: at its filter for ever, or to `stop`.
+    let for_ever = rng.percent(60);
+    // Each record farther out than the one before, or each beyond a constant of either side.
+    let farther = rng.percent(50);
+    let side = rng.percent(50);
+    let above: Vec<bool> = (0..variables).map(|_| if farther { side } else { rng.percent(50) }).collect();
+    // The orders of so many values on one side, equals among them.
+    let orders = |side: bool, v: usize| [1, 1, 3, 13][above[..v].iter().filter(|x| **x == side).count()];
+    let times: usize = (0..variables).map(|v| if farther { 1 } else { orders(true, v) * orders(false, v) }).sum();
+    let (lo, hi) = far_bounds(rng, if for_ever { times } else { 2 * times });
+    let stop = 2 * variables + 3 + rng.below(4);
+    let mut instructions = Vec::new();
+    for v in 1..=variables {
+        let i = instructions.len() + 1;
+        let inside = if rng.percent(85) { 0 } else { rng.from(1, 2) };
+        let m = if for_ever { i + 1 } else { stop };
+        instructions.push(Instruction::Read { tape: 1 + rng.below(tapes), v, p: i + 1, m: stop });
+        instructions.push(match above[v - 1] {
+            true if farther && v > 1 => Instruction::Less { u: v - 1, v, p: i + 2, m },
+            false if farther && v > 1 => Instruction::Less { u: v, v: v - 1, p: i + 2, m },
+            true => Instruction::Over { c: hi - inside, v, p: i + 2, m },
+            false => Instruction::Under { v, c: lo + inside, p: i + 2, m },
+        });
+    }
+    for i in 2 * variables + 1..stop {
+        let (u, v) = (1 + rng.below(variables), 1 + rng.below(variables));
+        let (p, m) = *rng.pick(&[(i + 1, stop), (stop, i + 1), (i + 1, i + 1)]);
+        instructions.push(match i - 2 * variables {
+            1 => Instruction::Over { c: hi, v, p: i + 1, m: i + 1 },
+            2 => Instruction::Under { v, c: lo, p: i + 1, m: i + 1 },
+            _ => Instruction::Less { u, v, p, m },
+        });
+    }
+    instructions.push(Instruction::Stop);
+    Flow { tapes, outputs: 0, variables, instructions }
+}
+
+/// A legal flow with constants far apart (document 02, T-09), of some thousand configurations up to a bit past 65,536.
+pub fn wide(rng: &mut Rng) -> Flow {
+    let n = if rng.percent(50) { rng.from(-2, 2) } else { rng.from(-5000, 3000) };
+    match rng.below(20) {
+        0 | 1 => edge_of_one(n),
+        2 | 3 => edge_of_two(n),
+        4 => edge_of_four(rng.below(4), rng.percent(50)),
+        5..=10 => filtered(rng),
+        _ => of_one(rng),
+    }
+}
+
 /// A legal flow.
 pub fn flow(rng: &mut Rng) -> Flow {
     match rng.below(20) {
@@ -284,21 +438,32 @@ pub fn flow(rng: &mut Rng) -> Flow {
 }
 
 #[rustfmt::skip]
-const NUMBERS: [&str; 40] = [
+const NUMBERS: [&str; 49] = [
     "", "0", "1", "2", "3", "4", "5", "-1", "-0", "+1", "00", "01", "007", "-01", "--1", "-", "1-", "1.0", " 1", "1 ", "0x1", "1e3", "63", "64", "65",
     "66", "255", "256", "257", "999", "1000", "1001", "-999", "-1000", "-1001", "65537", "4294967297", "18446744073709551617", "10000000000",
-    "99999999999999999999999999999999999999999",
+    "99999999999999999999999999999999999999999", "9999", "10000", "-9999", "-10000", "99990", "75535", "55537", "4294977295",
+    "18446744073709561615",
 ];
 
 /// Well written, and often out of range or turn.
-const WHOLE: [&str; 16] =
-    ["0", "1", "2", "3", "4", "5", "6", "12", "64", "65", "256", "1000", "1001", "65537", "4294967297", "18446744073709551617"];
+#[rustfmt::skip]
+const WHOLE: [&str; 22] = [
+    "0", "1", "2", "3", "4", "5", "6", "12", "64", "65", "256", "1000", "1001", "9999", "10000", "55537", "65537", "75535", "4294967297",
+    "4294977295", "18446744073709551617", "18446744073709561615",
+];
 
 /// Well written, and outside every range and turn.
-const OUTSIDE: [&str; 4] = ["1001", "65537", "4294967297", "18446744073709551617"];
+const OUTSIDE: [&str; 8] = ["10000", "55537", "65537", "75535", "4294967297", "4294977295", "18446744073709551617", "18446744073709561615"];
 
 /// Badly written wherever it stands.
 const BAD: [&str; 10] = ["", "-0", "+1", "01", "-01", "--1", "-", "1 ", "1.0", "x"];
+
+/// Constants in and out of their range, and badly written; the first two past it come twice.
+#[rustfmt::skip]
+const CONSTANTS: [&str; 26] = [
+    "-0", "-1", "-01", "-00", "-", "--1", "00", "+0", "-1000", "-1001", "1000", "1001", "-9998", "-9999", "-10000", "-10000", "9999",
+    "10000", "10000", "10001", "99990", "75535", "-55537", "4294977295", "-4294957297", "18446744073709561615",
+];
 
 const WORDS: [&str; 24] = [
     "read", "put", "copy", "set", "less", "over", "under", "nop", "stop", "flow", "", "Read", "READ", "rea", "reads", "read ", " nop",
@@ -374,9 +539,7 @@ fn aimed_edit(rng: &mut Rng, flow: &Flow, lines: &mut [Vec<u8>]) {
             Some(b'A') => about(rng, flow.tapes),
             Some(b'Y') => about(rng, flow.outputs),
             Some(b'v') => about(rng, flow.variables),
-            Some(b'c') => {
-                rng.pick(&["-0", "-1", "-01", "-00", "-", "--1", "-1000", "-1001", "1000", "1001", "-999", "00", "+0"]).to_string()
-            }
+            Some(b'c') => rng.pick(&CONSTANTS).to_string(),
             _ => about(rng, count),
         },
     };

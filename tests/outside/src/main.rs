@@ -2,10 +2,10 @@
 //!
 //!     outside [SEED [ROUNDS]]
 //!
-//! The implementation (documents/) is written from documents 01, 02 (T-02, T-08) and 000. Some of the texts go to the program `report` too,
-//! if its path is in REPORT. Prints the seed, the cases by sort and outcome, those of the empty text again by themselves, and `N cases, M
-//! differences`. A difference is printed with its case in full, and the status is then 1; it is 1 too if an outcome that documents 01 and
-//! 02 know was never met.
+//! The implementation (documents/) is written from documents 01, 02 (T-02, T-08, T-09) and 000. Some of the texts go to the program
+//! `report` too, if its path is in REPORT. Prints the seed, the cases by sort and outcome, those of the empty text and some with wide
+//! constants again by themselves, and `N cases, M differences`. A difference is printed with its case in full, and the status is then 1; it
+//! is 1 too if an outcome that documents 01 and 02 know was never met.
 
 mod cases;
 mod documents;
@@ -16,8 +16,8 @@ mod program;
 mod rng;
 
 use cases::{Checked, Known, RunCase, SampleCase, TapeCase};
-use documents::flow::Flow;
-use documents::{pieces, reader, search};
+use documents::flow::{Flow, Refusal};
+use documents::{pieces, reader, sample, search};
 use ffi::Words;
 use rng::Rng;
 use std::collections::BTreeMap;
@@ -42,15 +42,23 @@ const OUTCOMES: [(&str, &[&str]); 5] = [
 const OF_EMPTY: [(&str, &[&str]); 4] =
     [("run", &["stopped", "refused 12"]), ("report", &["given", "refused 9"]), ("program", &["given"]), ("sample", &["refused 11"])];
 
+/// What must be met with wide constants, by document 02 (T-09). The reports are those with C2 - C1 of 9,999 or more.
+const OF_WIDE: [(&str, &[&str]); 3] = [
+    ("text", &["a constant above 1000", "a constant below -1000", "refused 5 for 10000", "refused 5 for -10000"]),
+    ("report", &["given, more than 60,000 configurations", "refused 9"]),
+    ("sample", &["a record above 9999", "a record below -9999"]),
+];
+
 /// Cases by sort and outcome.
 type Counts = BTreeMap<(&'static str, String), usize>;
 
-/// Cases, those of the empty text among them, and differences; the largest numbers met.
+/// Cases, those of the empty text and with wide constants among them, and differences; the largest numbers met.
 #[derive(Default)]
 struct Tally {
     seed: u64,
     by_outcome: Counts,
     of_empty: Counts,
+    of_wide: Counts,
     confirmed: usize,
     past: usize,
     configurations: usize,
@@ -67,6 +75,26 @@ impl Tally {
         *self.by_outcome.entry((sort, checked.outcome)).or_default() += 1;
         if !checked.faults.is_empty() {
             self.differ(sort, &checked.faults, text, case);
+        }
+    }
+
+    fn note_wide(&mut self, sort: &'static str, outcome: &str, met: bool) {
+        if met {
+            *self.of_wide.entry((sort, outcome.to_string())).or_default() += 1;
+        }
+    }
+
+    /// A text that goes to the library, and what it is read as.
+    fn note_text(&mut self, text: &[u8], read: &Result<Flow, Refusal>) {
+        match read {
+            Ok(flow) => {
+                self.note_wide("text", "a constant above 1000", flow.bounds().1 > 1000);
+                self.note_wide("text", "a constant below -1000", flow.bounds().0 < -1000);
+            }
+            Err(why) => {
+                self.note_wide("text", "refused 5 for 10000", refused_for(text, *why, "10000", "9999"));
+                self.note_wide("text", "refused 5 for -10000", refused_for(text, *why, "-10000", "-9999"));
+            }
         }
     }
 
@@ -107,6 +135,13 @@ impl Tally {
                 }
             }
         }
+        for (sort, outcomes) in OF_WIDE {
+            for outcome in outcomes {
+                if !self.of_wide.contains_key(&(sort, outcome.to_string())) {
+                    missing.push(format!("{sort} with wide constants: {outcome}"));
+                }
+            }
+        }
         if self.past == 0 {
             missing.push("cells past 65,536 after a refusal".to_string());
         }
@@ -125,10 +160,29 @@ impl Tally {
         for ((sort, outcome), count) in &self.of_empty {
             println!("{count:7} {sort} of the empty text: {outcome}");
         }
+        for ((sort, outcome), count) in &self.of_wide {
+            println!("{count:7} {sort} with wide constants: {outcome}");
+        }
         println!("searches of our own confirmed by trial of numbers: {}", self.confirmed);
         println!("refusals with more than 65,536 cells: {}", self.past);
         println!("generated flows have up to {} configurations, distances up to {}", self.configurations, self.distance);
     }
+}
+
+/// Whether refusal 5 meets this constant: it does not with the other one in its place.
+fn refused_for(text: &[u8], why: Refusal, constant: &str, other: &str) -> bool {
+    let mut lines: Vec<&[u8]> = text.split(|b| *b == 10).collect();
+    let Some(line) = lines.get_mut((why.place as usize).wrapping_sub(1)).filter(|_| why.number == 5) else {
+        return false;
+    };
+    let mut fields: Vec<&[u8]> = line.split(|b| *b == b',').collect();
+    let Some(i) = fields.iter().position(|field| *field == constant.as_bytes()) else {
+        return false;
+    };
+    fields[i] = other.as_bytes();
+    let changed = fields.join(&b',');
+    *line = &changed;
+    reader::read(&lines.join(&10)).err() != Some(why)
 }
 
 fn known(text: &[u8]) -> Known {
@@ -188,6 +242,18 @@ fn cells_for(rng: &mut Rng, known: &Known) -> usize {
         15 if rng.percent(10) => MOST + rng.below(100),
         16 if rng.percent(20) => 0,
         _ => k + rng.below(500),
+    }
+}
+
+/// Cells for a flow with many configurations: often as many as count.
+fn cells_for_many(rng: &mut Rng, known: &Known) -> usize {
+    let k = known.as_ref().ok().and_then(|(_, census)| census.as_ref()).map_or(MOST, |census| census.configurations);
+    match rng.below(10) {
+        0..=2 => k,
+        3 => k - 1,
+        4 => MOST + rng.below(100),
+        5 => rng.below(k),
+        _ => MOST,
     }
 }
 
@@ -267,19 +333,30 @@ fn confirm(tally: &mut Tally, text: &[u8], known: &Known) {
 fn report(rng: &mut Rng, tally: &mut Tally, left: &mut Vec<Words>, text: &[u8], known: &Known, cells: usize) {
     let mut lent = lent::cells(rng, cells, left);
     let checked = cases::report(rng, text, known, &mut lent);
+    if let Ok((flow, census)) = known {
+        let (lo, hi) = flow.bounds();
+        let (wide, many) = (hi - lo >= 9_999, census.as_ref().is_some_and(|c| c.configurations > 60_000));
+        tally.note_wide("report", "given, more than 60,000 configurations", wide && many && checked.outcome == "given");
+        tally.note_wide("report", "refused 9", wide && checked.outcome == "refused 9");
+    }
     tally.note_search("report", checked, text, &"", cells);
     *left = lent.now().to_vec();
 }
 
 fn sample(rng: &mut Rng, tally: &mut Tally, left: &mut Vec<Words>, text: &[u8], known: &Known, cells: usize, case: &SampleCase) {
     let mut lent = lent::cells(rng, cells, left);
-    let checked = cases::sample(rng, text, known, &mut lent, case);
+    let (checked, records) = cases::sample(rng, text, known, &mut lent, case);
+    tally.note_wide("sample", "a record above 9999", records.iter().any(|record| *record > 9999));
+    tally.note_wide("sample", "a record below -9999", records.iter().any(|record| *record < -9999));
     tally.note_search("sample", checked, text, case, cells);
     *left = lent.now().to_vec();
 }
 
+/// How many cells are lent for a text.
+type CellsFor = fn(&mut Rng, &Known) -> usize;
+
 /// The report of a text, and samples for some of its exits.
-fn report_and_samples(rng: &mut Rng, tally: &mut Tally, left: &mut Vec<Words>, text: &[u8], samples: usize) {
+fn report_and_samples(rng: &mut Rng, tally: &mut Tally, left: &mut Vec<Words>, text: &[u8], samples: usize, cells_for: CellsFor) {
     let known = known(text);
     confirm(tally, text, &known);
     if let Ok((_, Some(census))) = &known {
@@ -298,14 +375,54 @@ fn report_and_samples(rng: &mut Rng, tally: &mut Tally, left: &mut Vec<Words>, t
 /// Flows of 65,535 to 65,537 configurations, with about as many cells, none of them 0.
 fn edges(rng: &mut Rng, tally: &mut Tally) {
     for n in 0..3 {
-        let text = gen::edge(n).text().into_bytes();
-        let known = known(&text);
-        for cells in [MOST - 2 + n, MOST - 1 + n, MOST + n, MOST + 3000] {
-            report(rng, tally, &mut Vec::new(), &text, &known, cells);
-            let case = SampleCase { instruction: n as u64 + 3, exit: false, row: 5 };
-            sample(rng, tally, &mut Vec::new(), &text, &known, cells, &case);
+        for (flow, instruction, exit) in [
+            (gen::edge(n), n + 3, false),
+            (gen::edge_of_one(n as i64), 4, true),
+            (gen::edge_of_two(n as i64), 5, true),
+            (gen::edge_of_four(n, n == 1), n + 10, true),
+        ] {
+            let text = flow.text().into_bytes();
+            let known = known(&text);
+            let count = if n < 2 { Ok(MOST - 1 + n) } else { Err(Refusal { number: 9, place: 0 }) };
+            assert_eq!(search::census(&flow, usize::MAX).map(|c| c.configurations), count, "counted by hand");
+            for cells in [MOST - 2 + n, MOST - 1 + n, MOST + n, MOST + 3000] {
+                report(rng, tally, &mut Vec::new(), &text, &known, cells);
+                sample(rng, tally, &mut Vec::new(), &text, &known, cells, &SampleCase { instruction: instruction as u64, exit, row: 12 });
+            }
         }
     }
+}
+
+/// Samples of a large distance that need a record beyond the constants.
+fn late(rng: &mut Rng, tally: &mut Tally) {
+    for (above, far) in [(true, 9999), (false, -9999)] {
+        let flow = gen::late(above);
+        let text = flow.text().into_bytes();
+        let known = known(&text);
+        let instruction = flow.instructions.len() as u64 - 1;
+        let d = search::census(&flow, MOST).ok().and_then(|c| c.p[instruction as usize - 1]).expect("a distance");
+        let bound = far + if above { d as i32 } else { -(d as i32) };
+        let faults = |record: i32| sample::faults(&flow, instruction, true, d, &vec![record; d as usize], &[1]).len();
+        assert_eq!([bound, bound + far.signum(), far].map(faults), [0, 1, 1], "the bound of a record, one past it, and the constant");
+        report(rng, tally, &mut Vec::new(), &text, &known, MOST);
+        for row in [d as usize - 1, d as usize, d as usize + 3] {
+            sample(rng, tally, &mut Vec::new(), &text, &known, MOST, &SampleCase { instruction, exit: true, row });
+        }
+    }
+}
+
+/// A generated flow: its text, read back and run twice.
+fn run_twice(rng: &mut Rng, tally: &mut Tally, flow: &Flow) -> Vec<u8> {
+    let text = flow.text().into_bytes();
+    let read = reader::read(&text);
+    assert_eq!(read.as_ref(), Ok(flow), "a generated flow is read back");
+    tally.note_text(&text, &read);
+    for _ in 0..2 {
+        let case = run_case(rng, Some(flow));
+        let checked = cases::run(rng, &text, &case);
+        tally.note("run", checked, &text, &case);
+    }
+    text
 }
 
 fn main() -> ExitCode {
@@ -315,28 +432,35 @@ fn main() -> ExitCode {
     let program = std::env::var("REPORT").ok();
     println!("seed {seed}");
     pieces::check();
-    assert_eq!(search::census(&gen::edge(0), MOST).map(|c| c.configurations), Ok(MOST - 1));
     let rng = &mut Rng::new(seed);
     let mut tally = Tally { seed, ..Tally::default() };
     edges(rng, &mut tally);
+    late(rng, &mut tally);
     let left = &mut Vec::new();
     for round in 0..rounds {
         let flow = gen::flow(rng);
-        let text = flow.text().into_bytes();
-        assert_eq!(reader::read(&text).as_ref(), Ok(&flow), "a generated flow is read back");
-        for _ in 0..2 {
-            let case = run_case(rng, Some(&flow));
-            let checked = cases::run(rng, &text, &case);
-            tally.note("run", checked, &text, &case);
-        }
+        let text = run_twice(rng, &mut tally, &flow);
         if round % 2 == 0 {
-            report_and_samples(rng, &mut tally, left, &text, 3);
+            report_and_samples(rng, &mut tally, left, &text, 3, cells_for);
         }
         if let (0, Some(program)) = (round % 16, &program) {
             tally.note("program", program::report(program, &text), &text, &"");
         }
+        if round % 16 == 0 {
+            let flow = gen::wide(rng);
+            let text = run_twice(rng, &mut tally, &flow);
+            // A search of so many configurations takes time.
+            if round % 256 == 0 {
+                report_and_samples(rng, &mut tally, left, &text, 3, cells_for_many);
+            }
+            if let (0, Some(program)) = (round % 256, &program) {
+                tally.note("program", program::report(program, &text), &text, &"");
+            }
+        }
         let text = gen::damaged(rng);
-        let read = reader::read(&text).ok();
+        let read = reader::read(&text);
+        tally.note_text(&text, &read);
+        let read = read.ok();
         if let Some(flow) = &read {
             pieces::written_back(&text, flow);
         }
@@ -347,7 +471,7 @@ fn main() -> ExitCode {
         let checked = cases::run(rng, &text, &case);
         tally.note("run", checked, &text, &case);
         if round % 8 == 0 {
-            report_and_samples(rng, &mut tally, left, &text, 1);
+            report_and_samples(rng, &mut tally, left, &text, 1, cells_for);
         }
         let case = tape_case(rng);
         let checked = cases::tape(rng, &case);

@@ -13,13 +13,21 @@ use Rattle.flow.specs.Limits.{maxVariables}
 use Rattle.configuration.specs.inner.Digits.{digits, undigits}
 use mathlib.Core.Path.{_≡_}
 
--- there are at least one and at most 20,000 whole numbers from C1 to C2, so that every code fits its lane
+-- whole numbers from the least constant to the greatest (document 02, T-09); no legal flow has more from C1 to C2 (proofs/Fitting.antt)
+abbrev pub maxWidth : ℕ
+maxWidth = 19999
+
+-- there are at least one and at most so many whole numbers from C1 to C2, so that every code fits its lane
 pub record Width (w : ℕ) : Type 0 where
   pub some : 0 < w
-  pub few : w ≤ 20000
+  pub few : w ≤ maxWidth
 
 abbrev pub lane : ℕ
 lane = 65536
+
+-- four lanes fill a word of 64 bits
+abbrev pub patternWords : ℕ
+patternWords = lane * (lane * (lane * lane))
 
 -- the codes of a pattern word
 abbrev pub lanes : ℕ → List ℕ

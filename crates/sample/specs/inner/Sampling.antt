@@ -4,7 +4,7 @@ use mathlib.Core.Bool.{Bool, true}
 use mathlib.Core.List.{List}
 use mathlib.Core.Option.{Option}
 use Prim.Native.Nat.{ℕ, suc, _+_, _-_, _<_, _≤_}
-use lib.IntN.{ℤ, pos, negsuc}
+use lib.IntN.{ℤ}
 use lib.ListN.{length, getD, drop}
 use lib.Signed.{leZ}
 use lib.Dec.{T}
@@ -13,7 +13,7 @@ use Rattle.model.specs.Machine.{Exit, exitIf}
 use Rattle.model.specs.Distance.{Distance}
 use Rattle.model.specs.Tapes.{total}
 use Rattle.model.specs.inner.Runs.{Follows, wider}
-use Rattle.flow.specs.Limits.{maxTapes, maxVariables}
+use Rattle.flow.specs.Limits.{maxTapes, maxVariables, leastConstant, greatestConstant}
 use Rattle.flow.specs.Legal.{Legal}
 use Rattle.configuration.specs.inner.Op.{widthOf}
 use Rattle.configuration.specs.inner.Place.{words, atOf, configurationOf}
@@ -70,8 +70,8 @@ sizesAlong k exit = countedOf (readsAlong k (k .steps)) (opAlong k (k .steps)) e
 -- the way leads from the flow's start by edges of the graph on words
 pub record CourseLeads (k : Course) (flow : Flow) : Type 0 where
   pub fit : FlowFits (k .lo) (k .hi) (k .w) flow
-  pub low : T (leZ (negsuc 9998) (k .lo))
-  pub high : T (leZ (k .hi) (pos 9999))
+  pub low : T (leZ leastConstant (k .lo))
+  pub high : T (leZ (k .hi) greatestConstant)
   pub prepared : Prepared (k .lo) flow (k .ops)
   pub passable : Passable (k .places) (k .path) (k .steps)
   pub patterned : (t : ℕ) → t ≤ k .steps → getD (k .path) t 0 < length (k .patterns)

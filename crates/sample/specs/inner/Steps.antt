@@ -2,12 +2,12 @@
 use mathlib.Core.Bool.{Bool, not, cond, _&&_}
 use mathlib.Core.List.{List, map}
 use Prim.Native.Nat.{ℕ, _<_}
-use lib.IntN.{ℤ, pos, negsuc, _+ℤ_}
+use lib.IntN.{ℤ, pos, _+ℤ_}
 use lib.ListN.{getD, set}
 use lib.Dec.{T, ltb}
 use lib.Signed.{leZ}
-use Rattle.flow.specs.Limits.{maxTapes, maxVariables}
-use Rattle.configuration.specs.inner.Pattern.{lanes, valuesOf}
+use Rattle.flow.specs.Limits.{maxTapes, maxVariables, leastConstant}
+use Rattle.configuration.specs.inner.Pattern.{maxWidth, lanes, valuesOf}
 use Rattle.configuration.specs.inner.Step.{endedOf}
 use Rattle.configuration.specs.declared.Words.{Words}
 use Rattle.configuration.specs.declared.Op.{Op}
@@ -67,9 +67,9 @@ lastRow lo hi op exit walk row = cond (isRead (op .action) && exit) (rowAfter (p
 pub record OpFits (op : Op) : Type 0 where
   pub tape : op .tape < maxTapes
   pub variable : op .variable < maxVariables
-  pub constant : op .constant < 20000
+  pub constant : op .constant < maxWidth
 
--- C1 has at most four digits, and 0 is not below it
+-- C1 is not below the least constant, and 0 is not below C1
 pub record Low (lo : ℤ) : Type 0 where
-  pub some : T (leZ (negsuc 9998) lo)
+  pub some : T (leZ leastConstant lo)
   pub most : T (leZ lo (pos 0))

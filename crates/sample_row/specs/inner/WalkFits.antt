@@ -3,14 +3,14 @@
 use mathlib.Core.Path.{_≡_}
 use mathlib.Core.List.{List}
 use Prim.Native.Nat.{ℕ, _≤_}
-use lib.IntN.{ℤ, pos, negsuc}
+use lib.IntN.{ℤ}
 use lib.Signed.{leZ}
 use lib.Dec.{T}
 use lib.ListN.{length}
 use Rattle.model.specs.Sample.{Near}
 use Rattle.model.specs.Tapes.{total}
 use Rattle.model.specs.inner.Lists.{All}
-use Rattle.flow.specs.Limits.{maxTapes, maxVariables}
+use Rattle.flow.specs.Limits.{maxTapes, maxVariables, leastConstant, greatestConstant}
 use Rattle.sample_row.specs.inner.Layout.{Laid}
 use Rattle.sample_row.specs.inner.Reading.{tapesWritten}
 use Rattle.sample_row.specs.declared.Walk.{Walk}
@@ -19,10 +19,10 @@ use Rattle.sample_row.specs.declared.Walk.{Walk}
 abbrev pub mostRecords : ℕ
 mostRecords = 131072
 
--- constants from -9,999 to 9,999, and not too many records: all numbers have 32 bits
+-- lo and hi within the limits of constants, and not too many records: all numbers have 32 bits
 pub record Bounded (lo hi : ℤ) (records : ℕ) : Type 0 where
-  pub low : T (leZ (negsuc 9998) lo)
-  pub high : T (leZ hi (pos 9999))
+  pub low : T (leZ leastConstant lo)
+  pub high : T (leZ hi greatestConstant)
   pub few : records ≤ mostRecords
 
 -- the parts of the sizes lie in the row; after as many reads as there are records, r, each record and each value lies from lo less r

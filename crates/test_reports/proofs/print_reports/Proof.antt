@@ -6,10 +6,10 @@ use Rattle.test_reports.proofs.print_reports.Statement.{statement}
 use Rattle.test_reports.proofs.print_reports.Tie as tie
 
 abbrev Inv-loop : tie.InvT-loop
-Inv-loop file at₀ t7 at = Unit {0}
+Inv-loop file wide at₀ t7 at = Unit {0}
 
 abbrev μ-loop : tie.MeasureT-loop
-μ-loop file at₀ t7 at = length file - at
+μ-loop file wide at₀ t7 at = length file - at
 
 pub print-reports-spec : {M : Type 1} → statement M
 print-reports-spec =

@@ -5,10 +5,10 @@ use Rattle.test_samples.proofs.print_samples.Statement.{statement}
 use Rattle.test_samples.proofs.print_samples.Tie as tie
 
 abbrev Inv-loop : tie.InvT-loop
-Inv-loop text f i₀ i = i ≤ 64
+Inv-loop text wide f i₀ i = i ≤ 64
 
 abbrev μ-loop : tie.MeasureT-loop
-μ-loop text f i₀ i = 64 - i
+μ-loop text wide f i₀ i = 64 - i
 
 pub print-samples-spec : {M : Type 1} → statement M
 print-samples-spec =

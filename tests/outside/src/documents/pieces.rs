@@ -1,5 +1,5 @@
-//! The test pieces of document 01 ("Test pieces"), case `-0` as document 02 (T-02) has it, flow A ("The report"), and the empty text of
-//! document 02 (T-08).
+//! The test pieces of document 01 ("Test pieces"), cases `-0` and 1001 as document 02 (T-02, T-09) has them, flow A ("The report"), and of
+//! document 02 the empty text (T-08) and the constants up to 9999 (T-09).
 
 use super::flow::{Flow, Instruction, Refusal};
 use super::interpreter::{run, End, Ran};
@@ -70,6 +70,11 @@ fn runs() {
     assert_eq!(b(100, 1), (End::Full, 3, vec![(1, 4)]));
     assert_eq!(b(3, 1), (End::Spent, 3, vec![(1, 4)]));
 
+    let ends = "flow,1,1,1\n1,set,9999,1,2\n2,put,1,1,3\n3,set,-9999,1,4\n4,put,1,1,5\n5,under,1,-9998,6,7\n6,over,-9999,1,7,7\n7,stop\n";
+    let ran = on_one_tape(ends, 100, &[], 2);
+    assert_eq!((ran.end, ran.steps, ran.puts), (End::Stopped, 6, vec![(1, 9999), (1, -9999)]));
+    assert_eq!((ran.p[4..6].to_vec(), ran.m[4..6].to_vec()), (vec![1, 0], vec![0, 1]));
+
     let endless = on_one_tape("flow,1,0,1\n1,nop,1\n", u64::MAX, &[], 0);
     assert_eq!((endless.end, endless.steps), (End::Spent, 1_000_000));
 
@@ -84,11 +89,11 @@ fn runs() {
 
 fn texts() {
     let set = |c: &str| format!("flow,1,0,1\n1,set,{c},1,2\n2,stop\n");
-    for c in ["1000", "-1000", "0", "-1"] {
+    for c in ["9999", "-9999", "1001", "-1001", "1000", "-1000", "0", "-1"] {
         assert_eq!(flow(&set(c)).instructions[0].constant(), c.parse().ok());
     }
     let long = "9".repeat(500);
-    for c in ["1001", "-1001", &long, &format!("-{long}")] {
+    for c in ["10000", "-10000", &long, &format!("-{long}")] {
         assert_eq!(refused(&set(c)), (5, 2));
     }
     for c in ["-0", "", "-", "--1", "+1", "01", "-01", "00", "1 ", "1.0", "x"] {
@@ -178,7 +183,7 @@ fn borders() {
         ("flow,1,0,1\n1,stop\r\n", (13, 2)),
         ("flow,1,0,1\n01,halt\n", (13, 2)),
         ("flow,1,0,1\n2,halt\n", (13, 2)),
-        ("flow,1,0,1\n1,halt,-0,1001,9\n", (13, 2)),
+        ("flow,1,0,1\n1,halt,-0,10000,9\n", (13, 2)),
         // An instruction line: the count of fields.
         ("flow,1,0,1\n1,nop\n", (14, 2)),
         ("flow,1,0,1\n1,stop,\n", (14, 2)),
@@ -187,14 +192,14 @@ fn borders() {
         ("flow,1,0,1\n1,read,01,-1\n", (14, 2)),
         ("flow,1,0,1\n1,set,-0,1,1,1\n", (14, 2)),
         ("flow,1,0,1\n2,nop\n", (14, 2)),
-        ("flow,1,0,1\n1,set,1001,1\n", (14, 2)),
+        ("flow,1,0,1\n1,set,10000,1\n", (14, 2)),
         ("flow,1,0,1\n1,nop,9,9\n", (14, 2)),
         // An instruction line: a number badly written, be it its own, a constant or a target.
         ("flow,1,0,1\n,stop\n", (15, 2)),
         ("flow,1,0,1\n01,stop\n", (15, 2)),
         ("flow,1,0,1\n-1,stop\n", (15, 2)),
         ("flow,1,0,1\nflow,stop\n", (15, 2)),
-        ("flow,1,0,1\n02,set,1001,1,1\n", (15, 2)),
+        ("flow,1,0,1\n02,set,10000,1,1\n", (15, 2)),
         ("flow,1,0,1\n2,set,-0,1,1\n", (15, 2)),
         ("flow,1,0,1\n1,over,-0,2,1,1\n", (15, 2)),
         ("flow,1,0,1\n1,under,-1,5,1,1\n", (15, 2)),
@@ -204,16 +209,16 @@ fn borders() {
         ("flow,1,0,1\n1,read,2,1,1,-0\n", (15, 2)),
         // Only then out of turn, then out of range, and after all lines the targets.
         ("flow,1,0,1\n0,stop\n", (6, 2)),
-        ("flow,1,0,1\n2,set,1001,1,9\n", (6, 2)),
-        ("flow,1,0,1\n1,set,1001,1,9\n", (5, 2)),
-        ("flow,1,0,1\n1,set,1000,1,9\n", (7, 2)),
+        ("flow,1,0,1\n2,set,10000,1,9\n", (6, 2)),
+        ("flow,1,0,1\n1,set,10000,1,9\n", (5, 2)),
+        ("flow,1,0,1\n1,set,9999,1,9\n", (7, 2)),
         // The first line at fault, and 7 only after all lines.
         ("flow,4,0,1\n1,halt\n", (5, 1)),
         ("flow,1,0,x\n1\n", (15, 1)),
         ("flow,1,0,1\n1,nop,x\n2,halt\n", (15, 2)),
         ("flow,1,0,1\n1,nop\n2,halt\n", (14, 2)),
         ("flow,1,0,1\n2,stop\n2,halt\n", (6, 2)),
-        ("flow,1,0,1\n1,set,1001,1,1\n2,nop\n", (5, 2)),
+        ("flow,1,0,1\n1,set,10000,1,1\n2,nop\n", (5, 2)),
         ("flow,1,0,1\n1,nop,9\n2,halt\n", (13, 3)),
         ("flow,1,0,1\n1,nop,9\n2,nop\n", (14, 3)),
         ("flow,1,0,1\n1,nop,9\n2,nop,-1\n", (15, 3)),
@@ -233,6 +238,42 @@ fn borders() {
     }
 }
 
+/// The borders of the constants' range, and numbers past it that a narrow or wrapping reader takes for legal ones.
+fn constants() {
+    for line in ["set,#,1,3", "over,#,1,3,3", "under,1,#,3,3"] {
+        let with = |c: &str| format!("flow,1,0,1\n1,nop,2\n2,{}\n3,stop\n", line.replace('#', c));
+        for c in [-9999, -9998, -1001, -1000, 1000, 1001, 9998, 9999] {
+            assert_eq!(flow(&with(&c.to_string())).instructions[1].constant(), Some(c));
+        }
+        // The range's ends less and plus 2 to the power 16, 32 and 64, and others.
+        #[rustfmt::skip]
+        let outside = [
+            "10000", "10001", "19999", "32767", "32768", "55537", "65536", "75535", "99990", "99999", "4294957297", "4294967296",
+            "4294977295", "18446744073709541617", "18446744073709551616", "18446744073709561615", &format!("1{}", "0".repeat(40)),
+        ];
+        for c in outside {
+            assert_eq!(refused(&with(c)), (5, 3), "{line} {c}");
+            assert_eq!(refused(&with(&format!("-{c}"))), (5, 3), "{line} -{c}");
+        }
+    }
+    for (line, refusal) in [
+        ("1,set,9999,9999,1", (5, 2)),
+        ("1,copy,9999,1,1", (5, 2)),
+        ("1,read,9999,1,1,1", (5, 2)),
+        ("1,put,1,9999,1", (5, 2)),
+        ("1,set,-9999,1,9999", (7, 2)),
+        ("1,under,1,9999,10000,1", (7, 2)),
+        ("1,over,9999,1,1,9999", (7, 2)),
+        ("1,nop,-9999", (15, 2)),
+        ("9999,stop", (6, 2)),
+        ("9999,set,10000,1,1", (6, 2)),
+        ("-9999,stop", (15, 2)),
+    ] {
+        assert_eq!(refused(&format!("flow,1,1,1\n{line}\n")), refusal, "{line}");
+    }
+    assert_eq!(refused("flow,9999,0,1\n1,stop\n"), (5, 1));
+}
+
 fn reports() {
     assert_eq!(lines(FLOW_A.as_bytes(), 4096), REPORT_A);
     assert_eq!(lines(FLOW_A.as_bytes(), 19), REPORT_A);
@@ -248,6 +289,65 @@ fn reports() {
         let census = census(&flow, 4096).expect("few configurations");
         assert_eq!(by_numbers(&flow, i64::from(census.depth) + 1), census);
     }
+}
+
+/// Two records above 9999, the second one less.
+const BEYOND: &str = "flow,1,0,2\n1,read,1,1,2,6\n2,over,9999,1,3,2\n3,read,1,2,4,6\n4,over,9999,2,5,4\n5,less,2,1,6,6\n6,stop\n";
+
+/// Reports with constants up to 9999, the configurations counted by hand.
+fn wide_reports() {
+    for (text, configurations, distances) in [
+        // One read with 20,001 patterns: 1, 20,001, 20,001 and 1 at the tape's end, 2.
+        ("flow,1,0,1\n1,read,1,1,2,3\n2,over,9999,1,3,3\n3,set,-9999,1,4\n4,stop\n", 40_006, "1,p,1\n1,m,1\n2,p,2\n2,m,2\n"),
+        // Flow A, its 5 made 9999: 2, 10,002, 10,001 and 2.
+        ("flow,1,0,1\n1,read,1,1,2,3\n2,over,9999,1,1,3\n3,stop\n", 20_007, "1,p,1\n1,m,1\n2,p,2\n2,m,2\n"),
+        // Only a record below -9998 leads back: 3, 10,001 and 2, 10,000 and 1.
+        ("flow,1,0,1\n1,read,1,1,2,2\n2,under,1,-9998,1,3\n3,stop\n", 20_007, "1,p,1\n1,m,1\n2,p,2\n2,m,2\n"),
+        ("flow,1,0,1\n1,under,1,-9999,2,2\n2,stop\n", 2, "1,p,none\n1,m,1\n"),
+        ("flow,1,0,1\n1,set,-9999,1,2\n2,under,1,-9999,3,3\n3,over,9999,1,4,4\n4,stop\n", 4, "2,p,none\n2,m,2\n3,p,none\n3,m,3\n"),
+        // No whole number between 9998 and 9999: 1, 10,002, 2, none, 10,002 and 1.
+        (
+            "flow,1,0,1\n1,read,1,1,2,5\n2,over,9998,1,3,5\n3,under,1,9999,4,5\n4,nop,5\n5,stop\n",
+            20_008,
+            "1,p,1\n1,m,1\n2,p,2\n2,m,2\n3,p,none\n3,m,3\n",
+        ),
+        // One between 9997 and 9999: 1, 10,002, 3, 1, 10,002 and 1.
+        (
+            "flow,1,0,1\n1,read,1,1,2,5\n2,over,9997,1,3,5\n3,under,1,9999,4,5\n4,nop,5\n5,stop\n",
+            20_010,
+            "1,p,1\n1,m,1\n2,p,2\n2,m,2\n3,p,3\n3,m,3\n",
+        ),
+        // Two tapes: 1, 10,002 and 1, three times 10,002 and 1.
+        (
+            "flow,2,0,1\n1,read,1,1,2,2\n2,read,2,1,3,3\n3,stop\n4,under,1,-9999,3,3\n",
+            40_011,
+            "1,p,1\n1,m,1\n2,p,2\n2,m,2\n4,p,none\n4,m,none\n",
+        ),
+        // 1, 10,002, 1, 10,004, 3, 3 and 2.
+        (BEYOND, 20_016, "1,p,1\n1,m,1\n2,p,2\n2,m,2\n3,p,3\n3,m,3\n4,p,4\n4,m,4\n5,p,5\n5,m,5\n"),
+        // Above, below and above again: 1, 20,001, 1, 20,003, 1, 20,005, 3, 3 and 3.
+        (
+            "flow,3,0,3\n1,read,1,1,2,8\n2,over,9999,1,3,2\n3,read,2,2,4,8\n4,under,2,-9999,5,4\n5,read,3,3,6,8\n6,over,9999,3,7,6\n\
+             7,less,1,3,8,8\n8,stop\n",
+            60_021,
+            "1,p,1\n1,m,1\n2,p,2\n2,m,2\n3,p,3\n3,m,3\n4,p,4\n4,m,4\n5,p,5\n5,m,5\n6,p,6\n6,m,6\n7,p,7\n7,m,7\n",
+        ),
+        (
+            "flow,1,0,4\n1,set,9999,1,2\n2,set,-9999,2,3\n3,set,9998,3,4\n4,copy,1,4,5\n5,less,2,3,6,6\n6,less,3,4,7,7\n7,less,4,1,8,8\n\
+             8,stop\n",
+            8,
+            "5,p,5\n5,m,none\n6,p,6\n6,m,none\n7,p,none\n7,m,7\n",
+        ),
+    ] {
+        let report = format!("report,{},{configurations}\n{distances}", flow(text).instructions.len());
+        for cells in [configurations, 65_536, usize::MAX] {
+            assert_eq!(lines(text.as_bytes(), cells), report, "{text}");
+        }
+        assert_eq!(lines(text.as_bytes(), configurations - 1), "refused,9,0\n", "{text}");
+    }
+    // Two tapes again, one instruction more: 1, 10,003, twice 30,007.
+    let many = b"flow,2,0,1\n1,read,1,1,2,2\n2,read,2,1,3,3\n3,under,1,-9999,4,4\n4,stop\n";
+    assert_eq!(lines(many, usize::MAX), "refused,9,0\n");
 }
 
 fn samples() {
@@ -277,6 +377,13 @@ fn samples() {
         (6, &[4, 5, 0, 0, 0, 0], &[2]),
     ] {
         assert_eq!(faults(&chain, 5, false, d, row, lengths).len(), 1);
+    }
+    let beyond = flow(BEYOND);
+    for row in [[10_001, 10_000, 0, 0, 0], [10_004, 10_003, 0, 0, 0]] {
+        assert!(faults(&beyond, 5, true, 5, &row, &[2]).is_empty());
+    }
+    for row in [[10_005, 10_004, 0, 0, 0], [10_000, 10_000, 0, 0, 0]] {
+        assert_eq!(faults(&beyond, 5, true, 5, &row, &[2]).len(), 1);
     }
     assert_eq!([1, 2, 3].map(|tape| part(7, &[2, 0, 3], tape)), [(0, 2), (2, 0), (2, 3)]);
     assert_eq!([0, 4, usize::MAX].map(|tape| part(7, &[2, 0, 3], tape)), [(0, 0); 3]);
@@ -354,8 +461,10 @@ pub fn check() {
     runs();
     texts();
     borders();
+    constants();
     about_empty();
     reports();
+    wide_reports();
     samples();
     of_empty();
 }

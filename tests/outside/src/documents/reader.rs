@@ -1,5 +1,5 @@
-//! Reading a flow text: document 01, "The flow text", and the rows 1 to 8 of "Where a request is turned back", as document 02 (T-02, T-08)
-//! changes them: 13, 14 and 15 stand where 4 stood, and 2 is gone, as no bytes are a legal text.
+//! Reading a flow text: document 01, "The flow text", and the rows 1 to 8 of "Where a request is turned back", as document 02 (T-02, T-08,
+//! T-09) changes them: 13, 14 and 15 stand where 4 stood, 2 is gone, as no bytes are a legal text, and constants run from -9999 to 9999.
 
 use super::flow::{Flow, Instruction, Refusal};
 
@@ -8,7 +8,7 @@ const TAPES: i64 = 3;
 const OUTPUTS: i64 = 3;
 const VARIABLES: i64 = 4;
 const INSTRUCTIONS: usize = 64;
-const CONSTANT: i64 = 1000;
+const CONSTANT: i64 = 9999;
 
 /// A number of more digits than any range holds is kept at this value, which lies outside every range.
 const LARGE: i64 = 1_000_000;

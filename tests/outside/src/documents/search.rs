@@ -52,39 +52,44 @@ impl Hasher for Mix {
         let mixed = u128::from(self.0 ^ word) * 0x9E37_79B9_7F4A_7C15;
         self.0 = mixed as u64 ^ (mixed >> 64) as u64;
     }
+
+    fn write_u128(&mut self, word: u128) {
+        self.write_u64(word as u64);
+        self.write_u64((word >> 64) as u64);
+    }
 }
 
-type Words = HashSet<u64, BuildHasherDefault<Mix>>;
+type Words = HashSet<u128, BuildHasherDefault<Mix>>;
 
 /// A pattern: a value from C1 to C2 stands for itself, C2 + r for rank r above C2, C1 - r for rank r below C1. The numbers of a
 /// pattern lie in the order of the values that it stands for. Variables past V stay 0, which lies inside.
-type Pattern = [i16; 4];
+type Pattern = [i32; 4];
 
-/// The greatest rank, and the bits of one number of a pattern: C2 + 4 less C1 - 4 is at most 2008.
-const RANKS: i16 = 4;
-const BITS: u32 = 11;
+/// The greatest rank, and the bits of one number of a pattern: C2 + 4 less C1 - 4 is at most 20,006 (document 02, T-09).
+const RANKS: i32 = 4;
+const BITS: u32 = 15;
 
 struct Search {
-    low: i16,
-    high: i16,
+    low: i32,
+    high: i32,
     room: usize,
     /// The configurations in the order of their arrival, and the same as a set.
-    found: Vec<u64>,
+    found: Vec<u128>,
     seen: Words,
     /// Where reads have led already: target, variable, tapes ended and the pattern of the other variables.
     fans: Words,
 }
 
 impl Search {
-    fn pack(&self, at: usize, ended: u8, pattern: Pattern) -> u64 {
-        let first = (at as u64) << 3 | u64::from(ended);
-        pattern.iter().fold(first, |word, &x| word << BITS | (x - self.low + RANKS) as u64)
+    fn pack(&self, at: usize, ended: u8, pattern: Pattern) -> u128 {
+        let first = (at as u128) << 3 | u128::from(ended);
+        pattern.iter().fold(first, |word, &x| word << BITS | (x - self.low + RANKS) as u128)
     }
 
-    fn unpack(&self, mut word: u64) -> (usize, u8, Pattern) {
+    fn unpack(&self, mut word: u128) -> (usize, u8, Pattern) {
         let mut pattern = [0; 4];
         for x in pattern.iter_mut().rev() {
-            *x = (word & ((1 << BITS) - 1)) as i16 + self.low - RANKS;
+            *x = (word & ((1 << BITS) - 1)) as i32 + self.low - RANKS;
             word >>= BITS;
         }
         ((word >> 3) as usize, (word & 7) as u8, pattern)
@@ -123,7 +128,7 @@ impl Search {
     /// of any size, so the values held outside C1 to C2 can lie as far apart as a later record needs: besides every whole number
     /// from C1 to C2 the record may share any rank held, or take a new rank before, between or beyond those held.
     fn fan(&mut self, at: usize, ended: u8, others: Pattern, v: usize) -> Result<(), Refusal> {
-        let key = self.pack(at, ended, others) | (v as u64) << 60;
+        let key = self.pack(at, ended, others) | (v as u128) << 120;
         if !self.fans.insert(key) {
             return Ok(());
         }
@@ -149,7 +154,7 @@ impl Search {
 
     /// The step out of a configuration, with which `distance` steps are done. What can follow depends on the configuration
     /// alone; where a read of a record leads does not depend on the value that its variable had.
-    fn step(&mut self, flow: &Flow, word: u64, distance: u32, census: &mut Census) -> Result<(), Refusal> {
+    fn step(&mut self, flow: &Flow, word: u128, distance: u32, census: &mut Census) -> Result<(), Refusal> {
         let (at, ended, pattern) = self.unpack(word);
         let mut compare = |holds: bool, p: usize, m: usize| census.take(at, (p, m), holds, distance);
         match flow.instructions[at - 1] {
@@ -171,12 +176,12 @@ impl Search {
             }
             Instruction::Set { c, v, n } => {
                 let mut after = self.without(pattern, v);
-                after[v - 1] = c as i16;
+                after[v - 1] = c as i32;
                 self.arrive(n, ended, after)
             }
             Instruction::Less { u, v, p, m } => self.arrive(compare(pattern[u - 1] < pattern[v - 1], p, m), ended, pattern),
-            Instruction::Over { c, v, p, m } => self.arrive(compare((c as i16) < pattern[v - 1], p, m), ended, pattern),
-            Instruction::Under { v, c, p, m } => self.arrive(compare(pattern[v - 1] < c as i16, p, m), ended, pattern),
+            Instruction::Over { c, v, p, m } => self.arrive(compare((c as i32) < pattern[v - 1], p, m), ended, pattern),
+            Instruction::Under { v, c, p, m } => self.arrive(compare(pattern[v - 1] < c as i32, p, m), ended, pattern),
             Instruction::Stop => Ok(()),
         }
     }
@@ -186,7 +191,7 @@ impl Search {
 pub fn census(flow: &Flow, cells: usize) -> Result<Census, Refusal> {
     let (low, high) = flow.bounds();
     let (found, seen, fans) = (Vec::new(), Words::default(), Words::default());
-    let mut search = Search { low: low as i16, high: high as i16, room: cells.min(CELLS), found, seen, fans };
+    let mut search = Search { low: low as i32, high: high as i32, room: cells.min(CELLS), found, seen, fans };
     let mut census = Census::new(flow);
     search.arrive(1, 0, [0; 4])?;
     let (mut next, mut level) = (0, 1);
