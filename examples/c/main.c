@@ -4,7 +4,7 @@
 #include <stdio.h>
 #include "tilsando.h"
 
-#define CELLS 4096
+#define CELLS TILSANDO_CELLS
 #define EACH TILSANDO_INSTRUCTIONS
 static uint8_t text[TILSANDO_BYTES + 1], two[EACH], numbers[CELLS];
 static uint32_t cells[CELLS][TILSANDO_CELL_WORDS], p[EACH], m[EACH], taken_p[EACH], taken_m[EACH];

@@ -1,17 +1,17 @@
 //! Prints the report of the flow in a file; then for each exit a sample, and whether the run on its tapes takes the exit.
 //! A file without bytes is a flow, so one that cannot be read must not be taken for it. A row is a pointer and its length, and the values of
 //! an answer stand as include/tilsando.h says.
-const CELLS: usize = 4096;
+const CELLS: usize = 65536;
 const EACH: usize = 64;
 type Row<T> = [T; CELLS];
 type Each<T> = [T; EACH];
-type Cells = Row<[u32; 10]>;
+type Cell = [u32; 10];
 
 #[link(name = "tilsando", kind = "static")]
 extern "C" {
-    fn tilsando_report(text: *const u8, _: usize, cells: &mut Cells, _: usize, two: &mut Each<u8>, _: usize, p: &mut Each<u32>, _: usize,
+    fn tilsando_report(text: *const u8, _: usize, cells: *mut Cell, _: usize, two: &mut Each<u8>, _: usize, p: &mut Each<u32>, _: usize,
         m: &mut Each<u32>, _: usize, answer: &mut [u64; 2], _: usize) -> u32;
-    fn tilsando_sample(text: *const u8, _: usize, instruction: u64, exit: u8, cells: &mut Cells, _: usize, row: &mut Row<i32>, _: usize,
+    fn tilsando_sample(text: *const u8, _: usize, instruction: u64, exit: u8, cells: *mut Cell, _: usize, row: &mut Row<i32>, _: usize,
         answer: &mut [u64; 5], _: usize) -> u32;
     fn tilsando_tape(row: &Row<i32>, _: usize, lengths: *const usize, _: usize, tape: usize, answer: &mut [u64; 2], _: usize) -> u32;
     fn tilsando_run(text: *const u8, _: usize, limit: u64, records: &Row<i32>, _: usize, lengths: *const usize, _: usize, numbers: &mut Row<u8>, _: usize,
@@ -19,9 +19,9 @@ extern "C" {
 }
 
 /// The sample for an exit: its tapes one after another, as `(6,9)()`, and whether its run takes the exit.
-fn try_exit(cells: &mut Cells, text: &[u8], i: usize, exit: char) -> String {
+fn try_exit(cells: &mut [Cell], text: &[u8], i: usize, exit: char) -> String {
     let (mut row, mut answer, mut part, mut ran) = ([0; CELLS], [0; 5], [0; 2], [0; 3]);
-    let why = unsafe { tilsando_sample(text.as_ptr(), text.len(), i as u64, (exit == 'p') as u8, cells, CELLS, &mut row, CELLS, &mut answer, 5) };
+    let why = unsafe { tilsando_sample(text.as_ptr(), text.len(), i as u64, (exit == 'p') as u8, cells.as_mut_ptr(), cells.len(), &mut row, CELLS, &mut answer, 5) };
     let [distance, tapes, lengths @ ..] = answer;
     if why != 0 || distance == 0 {
         return if why != 0 { format!("refused,{}", why % 256) } else { "none".to_string() };
@@ -48,8 +48,8 @@ fn main() {
         eprintln!("the flow cannot be read");
         std::process::exit(2);
     };
-    let (mut cells, mut two, mut p, mut m, mut answer) = ([[0; 10]; CELLS], [0; EACH], [0; EACH], [0; EACH], [0; 2]);
-    let why = unsafe { tilsando_report(text.as_ptr(), text.len(), &mut cells, CELLS, &mut two, EACH, &mut p, EACH, &mut m, EACH, &mut answer, 2) };
+    let (mut cells, mut two, mut p, mut m, mut answer) = (vec![[0; 10]; CELLS], [0; EACH], [0; EACH], [0; EACH], [0; 2]);
+    let why = unsafe { tilsando_report(text.as_ptr(), text.len(), cells.as_mut_ptr(), cells.len(), &mut two, EACH, &mut p, EACH, &mut m, EACH, &mut answer, 2) };
     if why != 0 {
         return println!("refused,{},{}", why % 256, why / 256);
     }
