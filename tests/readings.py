@@ -447,7 +447,7 @@ for word, line in [("set", "2,set,{},1,1"), ("over", "2,over,{},1,1,1"), ("under
         ]:
             constant(f"{name}-{far}".replace("--", "-minus-"), answer, other.format(far))
     constant("turn-9999", "6,3", "9" + line[1:].format(9999))
-    constant("target-9999", "7,3", line[:-1].format(9999) + "9")
+    constant("9999-before-target", "7,3", line[:-1].format(9999) + "9")
 # two lines: the first at fault counts, but a target only after all lines
 for name, answer, lines in [
     ("range-then-range", "5,2", ("1,set,10000,1,1", "2,over,-10000,1,1,1")),

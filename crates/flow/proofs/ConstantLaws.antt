@@ -1,5 +1,5 @@
 -- Which constants a flow may have (document 02, T-09). Those of a legal flow lie within their limits, and so do C1 and C2. And of all whole
--- numbers those within the limits are read, in each instruction with a constant, and every other is refused by 5 at its line.
+-- numbers those within the limits are read, as the constant of a flow of one instruction, and every other is refused by 5 at its line.
 use mathlib.Core.Path.{_≡_, refl, _∙_, subst}
 use mathlib.Core.Bool.{Bool, true, false, cond, _&&_}
 use mathlib.Core.List.{List, [], _∷_, _++_, map}

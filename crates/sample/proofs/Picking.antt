@@ -12,7 +12,6 @@ use lib.ListN.{length, getD}
 use Rattle.model.specs.Language.{Flow, instruction, hasExits}
 use Rattle.model.specs.Machine.{exitIf}
 use Rattle.model.specs.Distance.{Distance}
-use Rattle.model.proofs.Integers.{zarith}
 use Rattle.flow.specs.Limits.{maxInstructions, leastConstant, greatestConstant}
 use Rattle.flow.specs.declared.Refusal.the-variants.{ShortRow}
 use Rattle.configuration.specs.inner.Op.{opOf}

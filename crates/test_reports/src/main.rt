@@ -1,9 +1,9 @@
 // Prints the report of each flow of data/flows: the flow's name, and its report as the program `report` prints it. Then the same of the
-// flows of data/wide, with a maker's cells lent. The flows, and the reports in stdout, are made by tests/reports.py.
+// flows of data/wide, with 65,536 cells lent. The flows, and the reports in stdout, are made by tests/reports.py.
 
 fn print_report(text: &[u8], wide: bool) {
     if wide {
-        test_show::report_of_maker(text);
+        test_show::report_of_most(text);
     } else {
         test_show::report_of(text);
     }

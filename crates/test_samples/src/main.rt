@@ -1,4 +1,4 @@
-// Asks for a sample of every exit of each flow of data/flows, and of data/wide with a maker's cells lent, and runs it. A line says the
+// Asks for a sample of every exit of each flow of data/flows, and of data/wide with 65,536 cells lent, and runs it. A line says the
 // exit's distance, or none. After a distance it says `taken` if the run of the sample takes the exit with the last of that many steps and
 // not before, and reads all records of the sample, and if the rest of the row is as it was. The flows, and the answers in stdout, are made
 // by tests/reports.py.
@@ -35,14 +35,14 @@ fn ask_few(text: &[u8], i: usize, p: bool, row: &mut [i32]) -> SampleAnswer {
     tape_maker::sample(text, i, p, &mut cells, row)
 }
 
-fn ask_maker(text: &[u8], i: usize, p: bool, row: &mut [i32]) -> SampleAnswer {
-    let mut cells = [[0u32; Cell::WORDS]; test_show::MAKERS_CELLS];
+fn ask_many(text: &[u8], i: usize, p: bool, row: &mut [i32]) -> SampleAnswer {
+    let mut cells = [[0u32; Cell::WORDS]; test_show::MOST_CELLS];
     tape_maker::sample(text, i, p, &mut cells, row)
 }
 
 fn ask(text: &[u8], i: usize, p: bool, wide: bool, row: &mut [i32]) -> SampleAnswer {
     if wide {
-        return ask_maker(text, i, p, row);
+        return ask_many(text, i, p, row);
     }
     ask_few(text, i, p, row)
 }

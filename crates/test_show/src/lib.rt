@@ -48,11 +48,11 @@ pub fn report_of(text: &[u8]) {
     print(&lines[0..n]);
 }
 
-// The cells that a maker lends for constants that lie far apart; more do not count.
-pub const MAKERS_CELLS: usize = 65536;
+// More cells do not count.
+pub const MOST_CELLS: usize = 65536;
 
-// The report of a flow, with so many cells lent.
-pub fn report_of_maker(text: &[u8]) {
-    let mut cells = [[0u32; Cell::WORDS]; MAKERS_CELLS];
+// The report of a flow, with 65,536 cells lent.
+pub fn report_of_most(text: &[u8]) {
+    let mut cells = [[0u32; Cell::WORDS]; MOST_CELLS];
     report(tape_maker::report(text, &mut cells));
 }
