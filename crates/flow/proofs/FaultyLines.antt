@@ -1,6 +1,5 @@
 -- Faulty lines with their refusals, computed by the definition: in a line 13 comes before 14, 14 before 15, 15 before 6 and 6 before 5
--- (document 01, "Where a request is turned back"; document 02, T-02). And texts that look empty: only one of no bytes is a flow (T-08); and
--- constants on both sides of their limits, and far past them (T-09).
+-- (document 01, "Where a request is turned back"; document 02, T-02). And texts that look empty: only one of no bytes is a flow (T-08).
 use mathlib.Core.Path.{_≡_, refl}
 use mathlib.Core.List.{List, [], _∷_, _++_, map}
 use mathlib.Core.Option.{Option, none, some, bind}
@@ -16,19 +15,19 @@ use Rattle.flow.specs.Read as Read
 use Rattle.flow.specs.Read.{Checked, ok, fault, readFlow}
 
 -- the number and the place of a text's refusal, if it is refused
-abbrev refusal : Checked Flow → Option (ℕ × ℕ)
-refusal (ok flow) = none
-refusal (fault r) = some (numberAndPlace r)
+abbrev pub refusedBy : Checked Flow → Option (ℕ × ℕ)
+refusedBy (ok flow) = none
+refusedBy (fault r) = some (numberAndPlace r)
 
 -- a line as line 1, and as the line of instruction 1; and a whole text
 abbrev asHead : String → Option (ℕ × ℕ)
-asHead line = refusal (readFlow (bytes line ++ bytes "\n1,stop\n"))
+asHead line = refusedBy (readFlow (bytes line ++ bytes "\n1,stop\n"))
 
 abbrev asInstruction : String → Option (ℕ × ℕ)
-asInstruction line = refusal (readFlow (bytes "flow,1,0,1\n" ++ bytes line ++ bytes "\n"))
+asInstruction line = refusedBy (readFlow (bytes "flow,1,0,1\n" ++ bytes line ++ bytes "\n"))
 
 abbrev asText : String → Option (ℕ × ℕ)
-asText text = refusal (readFlow (bytes text))
+asText text = refusedBy (readFlow (bytes text))
 
 -- lines with their numbers, those of docs/FLOWS.md among them
 abbrev heads : List (String × ℕ)
@@ -63,22 +62,6 @@ nearlyEmpty =
     ∷ ("flow,1,0,1\n", some (8, 2)) ∷ ("flow,1,0,1\n\n", some (13, 2))
     ∷ []
 
--- constants, written, and whether a line with one of them is refused
-abbrev constants : List (String × Option (ℕ × ℕ))
-constants =
-    ("-10000", some (5, 2)) ∷ ("-9999", none) ∷ ("-1001", none) ∷ ("-1000", none)
-    ∷ ("1000", none) ∷ ("1001", none) ∷ ("9999", none) ∷ ("10000", some (5, 2))
-    -- numbers that 16, 32 and 64 bits take for 9999, and ten to the power of 40
-    ∷ ("75535", some (5, 2)) ∷ ("4294977295", some (5, 2)) ∷ ("18446744073709561615", some (5, 2))
-    ∷ ("10000000000000000000000000000000000000000", some (5, 2)) ∷ ("-10000000000000000000000000000000000000000", some (5, 2))
-    ∷ ("09999", some (15, 2)) ∷ ("-09999", some (15, 2)) ∷ ("+9999", some (15, 2))
-    ∷ []
-
--- a constant in each instruction that has one
-abbrev inEach : String → List (Option (ℕ × ℕ))
-inEach c = map (λ (l : List ℕ × List ℕ). refusal (readFlow (bytes "flow,1,0,1\n" ++ l .0 ++ bytes c ++ l .1)))
-    ((bytes "1,set,", bytes ",1,1\n") ∷ (bytes "1,over,", bytes ",1,1,1\n") ∷ (bytes "1,under,1,", bytes ",1,1\n") ∷ [])
-
 -- what a line is refused by, and what it ought to be refused by, at a place
 abbrev found : (String → Option (ℕ × ℕ)) → List (String × ℕ) → List (Option (ℕ × ℕ))
 found judge = map (λ (l : String × ℕ). judge (l .0))
@@ -89,6 +72,5 @@ ought place = map (λ (l : String × ℕ). some (l .1, place))
 pub faulty-lines : (found asHead heads ≡ ought 1 heads)
     × (found asInstruction instructions ≡ ought 2 instructions)
     × (map (λ (t : String × Option (ℕ × ℕ)). asText (t .0)) nearlyEmpty ≡ map (λ (t : String × Option (ℕ × ℕ)). t .1) nearlyEmpty)
-    × (map (λ (t : String × Option (ℕ × ℕ)). inEach (t .0)) constants ≡ map (λ (t : String × Option (ℕ × ℕ)). t .1 ∷ t .1 ∷ t .1 ∷ []) constants)
-unfolding Read.readFlow Read.readBytes Read.readRest Read.readHead Read.headOf Read.readLines Read.readLine Read.numerals bind Read.all Words.firstNamed Split.lines Split.split Split.parts Split.lead Split.sameWord Number.natural Number.numeral Number.negative Number.digitsAfter Read.lostTarget
-faulty-lines = (refl, refl, refl, refl)
+unfolding Read.readFlow Read.readBytes Read.readRest Read.readHead Read.headOf Read.readLines Read.readLine Read.numerals bind Read.all Words.firstNamed Split.lines Split.split Split.parts Split.lead Split.sameWord Number.natural Number.numeral Number.negative Number.digitsAfter
+faulty-lines = (refl, refl, refl)

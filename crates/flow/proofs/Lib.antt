@@ -12,4 +12,4 @@ pub mod Numbers
 pub mod Places
 pub mod WriteSizeLaws
 pub mod WriteLaws
-pub mod ConstantLaws
+pub mod LimitLaws

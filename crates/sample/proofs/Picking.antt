@@ -17,7 +17,7 @@ use Rattle.flow.specs.declared.Refusal.the-variants.{ShortRow}
 use Rattle.configuration.specs.inner.Op.{opOf}
 use Rattle.configuration.specs.inner.Pattern.{Width}
 use Rattle.configuration.specs.declared.Op.{Op}
-use Rattle.flow.proofs.ConstantLaws.{legal-limited}
+use Rattle.flow.proofs.LimitLaws.{legal-limited}
 use Rattle.configuration.proofs.Fitting.{fit-legal}
 use Rattle.configuration.specs.inner.Fits.{FlowFits}
 use Rattle.cells.specs.inner.Columns.{placeField, patternField, distanceField, parentField, bucketField, wayField, column, columnsOf, Only}

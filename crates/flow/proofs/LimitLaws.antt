@@ -3,7 +3,9 @@
 use mathlib.Core.Path.{_≡_, refl, _∙_, subst}
 use mathlib.Core.Bool.{Bool, true, false, cond, _&&_}
 use mathlib.Core.List.{List, [], _∷_, _++_, map}
+use mathlib.Core.Option.{Option, none, some, bind}
 use Prim.Native.Nat.{ℕ, suc, _≤_}
+use Prim.Native.String.{String}
 use native.Mathlib.Omega.{arith}
 use lib.IntN.{ℤ}
 use lib.Signed.{ltZ, leZ}
@@ -11,17 +13,23 @@ use lib.ListN.{length, getD}
 use lib.Dec.{T, leb}
 use Rattle.model.specs.Language.{Instruction, const, over, under, stop, Flow, Field, fields, constants, allConstants, least, greatest, C1, C2}
 use Rattle.model.proofs.Integers.{true-in}
+use Rattle.text.specs.Bytes.{bytes}
+use Rattle.text.specs.Split as Split
+use Rattle.text.specs.Number as Number
 use Rattle.text.specs.Write.{decimal, signed}
 use Rattle.text.proofs.Joined.{fields-parted}
 use Rattle.model.specs.inner.Lists.{All}
 use Rattle.flow.specs.Limits.{maxBytes, leastConstant, greatestConstant}
+use Rattle.flow.specs.Read as Read
 use Rattle.flow.specs.Read.{Checked, ok, check, after, unless, all, inRange, isNamed, readLines, lostTarget, readRest, readFlow}
+use Rattle.flow.specs.Words as Words
 use Rattle.flow.specs.Words.{mayMinus, sort, number}
 use Rattle.flow.specs.Code.{numbers}
 use Rattle.flow.specs.Write.{word, linesFrom, writeFlow}
 use Rattle.flow.specs.Legal.{Legal, head}
 use Rattle.flow.specs.declared.Head.{Head}
 use Rattle.flow.specs.declared.Refusal.the-variants.{OutOfRange, NoInstruction, NoSuchTarget}
+use Rattle.flow.proofs.FaultyLines.{refusedBy}
 use Rattle.flow.proofs.SortLaws.{constants-field, minus-bounds}
 use Rattle.flow.proofs.Tests.{and-split}
 use Rattle.flow.proofs.LegalLaws.{read-legal}
@@ -123,3 +131,25 @@ every-constant c =
     let last : (x : Instruction) → all (isNamed 1) (fields x) ≡ true → all (inRange (head (single x))) (fields x) ≡ limited && true → ReadIf limited x =
     λ x named e. subst (λ (b : Bool). ReadIf b x) (e ∙ and-true limited) (single-read x named) in
     (last (const c 1 1) refl refl, (last (over c 1 1 1) refl refl, (last (under 1 c 1 1) refl refl, tt)))
+
+-- ---- constants on both sides of the limits and far past them, computed
+-- constants, written, and what a line with one of them is refused by
+abbrev borders : List (String × Option (ℕ × ℕ))
+borders =
+    ("-10000", some (5, 2)) ∷ ("-9999", none) ∷ ("-1001", none) ∷ ("-1000", none)
+    ∷ ("1000", none) ∷ ("1001", none) ∷ ("9999", none) ∷ ("10000", some (5, 2))
+    -- numbers that 16, 32 and 64 bits take for 9999, and ten to the power of 40
+    ∷ ("75535", some (5, 2)) ∷ ("4294977295", some (5, 2)) ∷ ("18446744073709561615", some (5, 2))
+    ∷ ("10000000000000000000000000000000000000000", some (5, 2)) ∷ ("-10000000000000000000000000000000000000000", some (5, 2))
+    ∷ ("09999", some (15, 2)) ∷ ("-09999", some (15, 2)) ∷ ("+9999", some (15, 2))
+    ∷ []
+
+-- a constant in each instruction that has one
+abbrev inEach : String → List (Option (ℕ × ℕ))
+inEach c = map (λ (l : List ℕ × List ℕ). refusedBy (readFlow (bytes "flow,1,0,1\n" ++ l .0 ++ bytes c ++ l .1)))
+    ((bytes "1,set,", bytes ",1,1\n") ∷ (bytes "1,over,", bytes ",1,1,1\n") ∷ (bytes "1,under,1,", bytes ",1,1\n") ∷ [])
+
+pub borders-judged : map (λ (t : String × Option (ℕ × ℕ)). inEach (t .0)) borders
+    ≡ map (λ (t : String × Option (ℕ × ℕ)). t .1 ∷ t .1 ∷ t .1 ∷ []) borders
+unfolding Read.readFlow Read.readBytes Read.readRest Read.readHead Read.headOf Read.readLines Read.readLine Read.numerals bind Read.all Words.firstNamed Split.lines Split.split Split.parts Split.lead Split.sameWord Number.natural Number.numeral Number.negative Number.digitsAfter Read.lostTarget
+borders-judged = refl
