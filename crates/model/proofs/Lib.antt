@@ -6,6 +6,7 @@ pub mod Faithful
 pub mod Alike
 pub mod Side
 pub mod Ranks
+pub mod NineCases
 pub mod Room
 pub mod Candidates
 pub mod Graph

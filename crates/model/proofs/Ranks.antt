@@ -124,7 +124,7 @@ module _ {lo hi : ℤ} (z : Inside lo hi (pos 0)) (S : Side lo hi) where
       passes u r true e = lib.Dec.T-not (less x u) r (lt-o x u (omega (arith, tr-i, lt-i)))
       passes u r false e = tt
 
-  rank-pos : (v : List ℤ) (y : ℤ) → T (less edge y) → T (among y v) → 1 ≤ rank less edge v y
+  pub rank-pos : (v : List ℤ) (y : ℤ) → T (less edge y) → T (among y v) → 1 ≤ rank less edge v y
   rank-pos v y k m =
       let self = and-out (less edge y) (not (less y y)) k (fails y) in
       omega (arith, different-lt (λ u. false) (λ u. less edge u && not (less y u)) v y (λ u r. absurd r) m self tt)
@@ -194,7 +194,7 @@ module _ {lo hi : ℤ} (z : Inside lo hi (pos 0)) where
           let q : Inside lo hi (term v t) = record { low = omega zarith; high = omega zarith } in
           rw (moved-inside lo hi v (term v s) p, moved-inside lo hi v (term v t) q) h
 
-  moved-order : (v : List ℤ) (s t : Term) → Known lo hi s → Known lo hi t
+  pub moved-order : (v : List ℤ) (s t : Term) → Known lo hi s → Known lo hi t
       → ltZ (spreadValue lo hi v (term v s)) (spreadValue lo hi v (term v t)) ≡ ltZ (term v s) (term v t)
   moved-order v s t j k = go (tell (upper z) (term v s) (term v t))
     where

@@ -1,4 +1,5 @@
 pub mod Lists
 pub mod Integers
 pub mod View
+pub mod Marks
 pub mod Runs

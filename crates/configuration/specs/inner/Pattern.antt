@@ -9,6 +9,7 @@ use lib.IntN.{ℤ, pos, _+ℤ_}
 use lib.ListN.{getD, set}
 use lib.Dec.{leb, ltb, eqb}
 use Rattle.model.specs.Pattern.{Mark, above, inside, below}
+use Rattle.model.specs.inner.Marks.{lessMark}
 use Rattle.flow.specs.Limits.{maxVariables}
 use Rattle.configuration.specs.inner.Digits.{digits, undigits}
 use mathlib.Core.Path.{_≡_}
@@ -75,9 +76,15 @@ codesOf w values = map (laneCode w values) values
 unfoldable pub laneOf : (pattern u : ℕ) → ℕ
 laneOf pattern u = getD (lanes pattern) u 0
 
--- whether the value of code c is less than that of code d
+-- the position of a value, as a number: 0 below C1, 1 from C1 to C2, 2 above C2
+unfoldable pub positionOf : Mark → ℕ
+positionOf (below k) = 0
+positionOf (inside z) = 1
+positionOf (above k) = 2
+
+-- whether the value of code c is less than that of code d: the nine cases of their marks, with C1 taken as 0, since C1 changes no answer
 unfoldable pub lessOf : (w c d : ℕ) → Bool
-lessOf w c d = ltb (valueOf w c) (valueOf w d)
+lessOf w c d = lessMark (markOf (pos 0) w c) (markOf (pos 0) w d)
 
 -- the word when variable v gets the value y
 unfoldable pub assignOf : (w pattern v y : ℕ) → ℕ
