@@ -1,4 +1,4 @@
--- The nine cases in which two codes are compared, by their number: three times the position of the one and the position of the other. `position` and
+-- The nine cases in which two codes are compared, by their number: three times the position of the one plus the position of the other. `position` and
 -- `less` answer by these laws.
 use mathlib.Core.Path.{_≡_, refl, sym, ap₂}
 use mathlib.Core.Bool.{Bool, true, false, cond}
@@ -68,12 +68,11 @@ position-few (below k) e = omega arith
 position-few (inside z) e = omega arith
 position-few (above k) e = omega arith
 
-unfoldable pub NoneBelow : (n k : ℕ) → Type 0
+abbrev pub NoneBelow : (n k : ℕ) → Type 0
 NoneBelow zero k = Unit {0}
 NoneBelow (suc n) k = NoneBelow n k × (k ≡ n → ⊥)
 
 past : (n k : ℕ) → NoneBelow n k → n ≤ k
-unfolding NoneBelow
 past zero k h = omega arith
 past (suc n) k (h, e) = let g = past n k h in omega arith
 

@@ -1,10 +1,9 @@
--- The nine cases of `lessMark` compare values: those that the spread puts for the two marks (`less-place`), and so those of any two variables, or of
--- a variable and a constant, whatever they hold, since the spread keeps the order (`marks-compared`).
+-- The nine cases of `lessMark` compare values: those that the spread puts for the two marks (`less-place`), and so those that have the marks, of two
+-- variables or of a variable and a constant, whatever the variables hold, since the spread keeps the order (`marks-compared`).
 use mathlib.Core.Path.{_≡_, refl, sym, _∙_, subst}
-use mathlib.Core.Bool.{Bool, true, false, not}
+use mathlib.Core.Bool.{Bool, true, false}
 use mathlib.Core.List.{List}
 use Prim.Native.Nat.{ℕ, _<_, _≤_}
-use native.Mathlib.Omega.{arith}
 use lib.IntN.{ℤ, pos}
 use lib.Signed.{ltZ}
 use lib.Dec.{T, ltb, ltb→lt, lt→ltb}
@@ -12,7 +11,7 @@ use Rattle.model.specs.Pattern.{Mark, inside, above, below, mark}
 use Rattle.model.specs.inner.Integers.{Inside}
 use Rattle.model.specs.inner.Marks.{lessMark}
 use Rattle.model.specs.inner.View.{Term, term}
-use Rattle.model.proofs.Integers.{zarith, true-out, false-out, same-test}
+use Rattle.model.proofs.Integers.{zarith, same-test}
 use Rattle.model.proofs.View.{Known}
 use Rattle.model.proofs.Side.{place, mark-inside, above-placed, below-placed, side, Zone, beyond, within, zone}
 use Rattle.model.proofs.Ranks.{among-term, rank-pos, moved-order}
@@ -24,29 +23,21 @@ SoundMark lo hi (above k) = 1 ≤ k
 SoundMark lo hi (below k) = 1 ≤ k
 
 module _ {lo hi : ℤ} (z : Inside lo hi (pos 0)) where
-  abbrev at : Mark → ℤ
-  at m = place lo hi m
-
-  ahead : (m n : Mark) → T (ltZ (at m) (at n)) → true ≡ ltZ (at m) (at n)
-  ahead m n h = sym (true-out (ltZ (at m) (at n)) h)
-
-  behind : (m n : Mark) → T (not (ltZ (at m) (at n))) → false ≡ ltZ (at m) (at n)
-  behind m n h = sym (false-out (ltZ (at m) (at n)) h)
-
-  by-rank : (j k : ℕ) (m n : Mark) → (j < k → T (ltZ (at m) (at n))) → (T (ltZ (at m) (at n)) → j < k) → ltb j k ≡ ltZ (at m) (at n)
-  by-rank j k m n f g = same-test (ltb j k) (ltZ (at m) (at n)) (λ t. f (ltb→lt j k t)) (λ t. lt→ltb j k (g t))
+  by-rank : (j k : ℕ) (m n : Mark) → (j < k → T (ltZ (place lo hi m) (place lo hi n))) → (T (ltZ (place lo hi m) (place lo hi n)) → j < k)
+      → ltb j k ≡ ltZ (place lo hi m) (place lo hi n)
+  by-rank j k m n f g = same-test (ltb j k) (ltZ (place lo hi m) (place lo hi n)) (λ t. f (ltb→lt j k t)) (λ t. lt→ltb j k (g t))
 
   pub less-place : (m n : Mark) → SoundMark lo hi m → SoundMark lo hi n → lessMark m n ≡ ltZ (place lo hi m) (place lo hi n)
   unfolding lessMark place
   less-place (below j) (below k) p q = by-rank k j (below j) (below k)
       (λ h. omega (zarith, below-placed z j, below-placed z k)) (λ h. omega (zarith, below-placed z j, below-placed z k))
-  less-place (below j) (inside y) p q = ahead (below j) (inside y) (omega (zarith, below-placed z j))
-  less-place (below j) (above k) p q = ahead (below j) (above k) (omega (zarith, below-placed z j, above-placed z k))
-  less-place (inside x) (below k) p q = behind (inside x) (below k) (omega (zarith, below-placed z k))
+  less-place (below j) (inside y) p q = sym (omega (zarith, below-placed z j))
+  less-place (below j) (above k) p q = sym (omega (zarith, below-placed z j, above-placed z k))
+  less-place (inside x) (below k) p q = sym (omega (zarith, below-placed z k))
   less-place (inside x) (inside y) p q = refl
-  less-place (inside x) (above k) p q = ahead (inside x) (above k) (omega (zarith, above-placed z k))
-  less-place (above j) (below k) p q = behind (above j) (below k) (omega (zarith, above-placed z j, below-placed z k))
-  less-place (above j) (inside y) p q = behind (above j) (inside y) (omega (zarith, above-placed z j))
+  less-place (inside x) (above k) p q = sym (omega (zarith, above-placed z k))
+  less-place (above j) (below k) p q = sym (omega (zarith, above-placed z j, below-placed z k))
+  less-place (above j) (inside y) p q = sym (omega (zarith, above-placed z j))
   less-place (above j) (above k) p q = by-rank j k (above j) (above k)
       (λ h. omega (zarith, above-placed z j, above-placed z k)) (λ h. omega (zarith, above-placed z j, above-placed z k))
 

@@ -82,7 +82,8 @@ positionOf (below k) = 0
 positionOf (inside z) = 1
 positionOf (above k) = 2
 
--- whether the value of code c is less than that of code d: the nine cases of their marks, with C1 taken as 0, since C1 changes no answer
+-- whether the value of code c is less than that of code d: the nine cases of their marks. C1 is taken as 0; any other that a flow
+-- can have gives the same (proofs/Marks.antt, `less-any-lo`)
 unfoldable pub lessOf : (w c d : ℕ) → Bool
 lessOf w c d = lessMark (markOf (pos 0) w c) (markOf (pos 0) w d)
 

@@ -1,4 +1,4 @@
--- Two variables compared by their marks (document 02, T-05): the nine cases of below, inside and above.
+-- Two values compared by their marks (document 02, T-05): the nine cases of below, inside and above.
 use mathlib.Core.Bool.{Bool, true, false}
 use lib.Signed.{ltZ}
 use lib.Dec.{ltb}
