@@ -346,10 +346,12 @@ def unreached(*constants):
 
 def patient(head, *lines, constants=()):
     """Instructions in a chain with few configurations: where a comparison does not hold it is made again for ever, or where it
-    holds if `not` is before it. At the end of a tape the run stops."""
+    holds if `not` is before it; with `both` before it both exits lead on. At the end of a tape the run stops."""
     def on(i, line):
         if line.startswith("not "):
             return f"{line[4:]},{i},+"
+        if line.startswith("both "):
+            return f"{line[5:]},+,+"
         return line + {"read": ",+,end", "less": f",+,{i}", "over": f",+,{i}", "under": f",+,{i}"}.get(line.split(",")[0], ",+")
     return flow(head, *(on(i, x) for i, x in enumerate(lines, 1)), "end: stop", *unreached(*constants))
 
@@ -473,6 +475,86 @@ some("wide-chance-three-tapes", 6, 8, 3, 1, (5, 8), -9999, 9999)
 some("wide-chance-two-variables", 12, 9, 2, 2, (6, 9), -9999, 9999)
 
 
+# ---- the nine pairs: two variables, each below C1, inside from C1 to C2, or above C2
+
+POSITIONS = ("below", "inside", "above")
+
+
+def pairs(head, u, v, low, high, compared):
+    """A record to u and a record to v. Tests with C1 and C2 part the nine pairs, u first, and each pair has a comparison of its
+    own: from there to `low`, and from `low` to `stop`, or to `stop` at once."""
+    def parted(x, before):
+        return [f"under,{x},{low},{before}below,+", f"over,{high},{x},{before}above,{before}inside"]
+
+    lines = [f"read,1,{u},+,end", f"read,1,{v},+,end", *parted(u, "")]
+    for a in POSITIONS:
+        first, second = parted(v, f"{a}-")
+        lines += [f"{a}: {first}", second, *(f"{a}-{b}: less,{compared},low,end" for b in POSITIONS)]
+    return flow(head, *lines, "low: nop,+", "end: stop")
+
+
+for name, head, u, v, low, high in [("around-0", "1,0,2", 1, 2, -1, 2), ("of-0", "1,0,2", 1, 2, 0, 0), ("to-0", "1,0,4", 4, 2, -2, 0),
+                                    ("from-0", "1,0,3", 2, 3, 0, 1)]:
+    case("nine", f"pairs-{name}", pairs(head, u, v, low, high, f"{u},{v}"))
+    case("nine", f"pairs-{name}-exchanged", pairs(head, u, v, low, high, f"{v},{u}"))
+
+# the like pairs: less, greater, equal; and equal values are not less
+THREE_WAYS = ["less,1,2,end,+", "less,2,1,end,+", "less,1,2,never,+", "less,2,1,never,end"]
+case("nine", "like-pairs", flow("1,0,2", "read,1,1,+,end", "read,1,2,+,end", "under,1,-1,below,+", "over,1,1,above,+",
+     "under,2,-1,end,+", "over,1,2,end,+", *THREE_WAYS, "below: under,2,-1,+,end", *THREE_WAYS, "above: over,1,2,+,end", *THREE_WAYS,
+     "never: less,1,1,end,end", "end: stop"))
+
+
+# where a variable stands is known from `less`, and then each of C1 and C2 is compared with it by `over` and `under`
+def with_constants(label, *constants):
+    first, *others = [f"over,{c},1" for c in constants] + [f"under,1,{c}" for c in constants]
+    return [f"{label}: {first},+,+", *(x + ",+,+" for x in others[:-1]), f"{others[-1]},end,end"]
+
+
+case("nine", "constants", flow("1,0,3", "set,-2,2,+", "set,3,3,+", "read,1,1,+,end", "less,1,2,below,+", "less,3,1,above,+",
+     "less,2,1,+,at-low", "less,1,3,between,at-high",
+     *(x for label in ("below", "at-low", "between", "at-high", "above") for x in with_constants(label, -2, 3)), "end: stop"))
+case("nine", "constants-of-0", flow("1,0,2", "read,1,1,+,end", "less,1,2,below,+", "less,2,1,above,at-0",
+     *(x for label in ("below", "at-0", "above") for x in with_constants(label, 0)), "end: stop"))
+
+
+def each_two(v):
+    """Each two of so many variables, and each with itself."""
+    return [f"both less,{x},{y}" for x in range(1, v + 1) for y in range(1, v + 1)]
+
+
+def equal_to(c, v):
+    """A record to v that is this constant; no other constant is needed."""
+    return [f"read,1,{v}", f"not under,{v},{c}", f"not over,{c},{v}"]
+
+
+# Four variables, and one pattern of them is left where each two are compared. A report would be the same if all ranks of one side were
+# compared the wrong way round; the samples would not be.
+for side in (1, -1):
+    def beyond(x, y):
+        return f"less,{x},{y}" if side > 0 else f"less,{y},{x}"
+
+    # ranks 1, 2, 3, 4; then variable 4 gets a record equal to variable 3, to variable 2, to variable 1
+    again = [y for x in (3, 2, 1) for y in ["read,1,4", f"not {beyond(x, 4)}", f"not {beyond(4, x)}", f"both {beyond(x, 4)}",
+                                           f"both {beyond(4, x)}"]]
+    name, outside = ("above", "over,2,{}") if side > 0 else ("below", "under,{},-2")
+    case("nine", f"ranks-{name}", patient("1,0,4", "read,1,1", outside.format(1), "read,1,2", beyond(1, 2), "read,1,3", beyond(2, 3),
+         "read,1,4", beyond(3, 4), *each_two(4), *again))
+    # ranks 4, 3, 2, 1: each record moves the ones before it out by one
+    inwards = [y for x in (1, 2, 3) for y in [f"read,1,{x + 1}", outside.format(x + 1), beyond(x + 1, x)]]
+    case("nine", f"ranks-{name}-inwards", patient("1,0,4", "read,1,1", outside.format(1), *inwards, *each_two(4)))
+case("nine", "inside-neighbours", patient("1,0,4", *equal_to(-1, 1), *equal_to(0, 2), *equal_to(1, 3), *equal_to(2, 4), *each_two(4)))
+case("nine", "inside-equal", patient("1,0,4", *equal_to(-1, 1), *equal_to(-1, 2), *equal_to(1, 3), *equal_to(1, 4), *each_two(4)))
+case("nine", "below-low-high-above", patient("1,0,4", "read,1,1", "under,1,-2", *equal_to(-2, 2), *equal_to(3, 3), "read,1,4", "over,3,4",
+     *each_two(4)))
+case("nine", "two-below-two-above", patient("1,0,4", "read,1,1", "under,1,-1", "read,1,2", "less,2,1", "read,1,3", "over,1,3", "read,1,4",
+     "less,3,4", *each_two(4)))
+# variable 1 below -9999, variable 3 above 9999, and variable 2 the one or the other constant
+for name, lines in [("9999", ["not under,2,9999", "not over,9999,2"]), ("minus-9999", ["not over,-9999,2", "not under,2,-9999"])]:
+    case("wide-nine", f"inside-{name}", patient("1,0,3", "read,1,1", "under,1,-9999", "read,1,3", "over,9999,3", "read,1,2", *lines,
+         *each_two(3)))
+
+
 # ---- the reports, and the searches held to each other
 
 class Found:
@@ -527,27 +609,147 @@ def by_tapes(found):
 
 BY_HAND = {
     # 1, 20,001, the two above 9998, and at `stop` 9999 and, after the end of the tape, 0
-    "exactly-9999": "report,5,20006 1,p,1 1,m,1 2,p,2 2,m,2 3,p,3 3,m,3",
+    "wide/exactly-9999": "report,5,20006 1,p,1 1,m,1 2,p,2 2,m,2 3,p,3 3,m,3",
     # 1, 20,001, 8,999 numbers under -1000 and the one below, 2
-    "exactly-minus-1001": "report,6,29004 1,p,1 1,m,1 2,p,2 2,m,2 3,p,3 3,m,3",
+    "wide/exactly-minus-1001": "report,6,29004 1,p,1 1,m,1 2,p,2 2,m,2 3,p,3 3,m,3",
     # 1, 20,001, 2, 1
-    "none-after-9998": "report,5,20005 1,p,1 1,m,1 2,p,2 2,m,2 3,p,none 3,m,3",
+    "wide/none-after-9998": "report,5,20005 1,p,1 1,m,1 2,p,2 2,m,2 3,p,none 3,m,3",
     # at the read 0, 9,994 numbers over 5 and the one above; 10,002; at `stop` the 9,996 of the read, 0 to 5 and the one below
-    "flow-a-unreached": "report,4,30001 1,p,1 1,m,1 2,p,2 2,m,2",
+    "wide/flow-a-unreached": "report,4,30001 1,p,1 1,m,1 2,p,2 2,m,2",
     # no read: each instruction that is run stands in one configuration, all but instruction 13
-    "set-four": "report,14,13 5,p,5 5,m,none 6,p,6 6,m,none 7,p,7 7,m,none 8,p,none 8,m,8 10,p,none 10,m,10 11,p,11 11,m,none "
-                "13,p,none 13,m,none",
+    "wide/set-four": "report,14,13 5,p,5 5,m,none 6,p,6 6,m,none 7,p,7 7,m,none 8,p,none 8,m,8 10,p,none 10,m,10 11,p,11 11,m,none "
+                     "13,p,none 13,m,none",
     # a read has 1; after it are 20,001, then 20,003, then the one with equal values and the one with variable 2 farther, then 1; 3
-    "two-equal-below": "report,8,40012 1,p,1 1,m,1 2,p,2 2,m,2 3,p,3 3,m,3 4,p,4 4,m,4 5,p,5 5,m,5 6,p,6 6,m,none",
+    "wide/two-equal-below": "report,8,40012 1,p,1 1,m,1 2,p,2 2,m,2 3,p,3 3,m,3 4,p,4 4,m,4 5,p,5 5,m,5 6,p,6 6,m,none",
     # each of three reads has 1, and its end gives 1; 20,001, 20,003, 20,005; 1
-    "three-above": "report,8,60016 1,p,1 1,m,1 2,p,2 2,m,2 3,p,3 3,m,3 4,p,4 4,m,4 5,p,5 5,m,5 6,p,6 6,m,6",
+    "wide/three-above": "report,8,60016 1,p,1 1,m,1 2,p,2 2,m,2 3,p,3 3,m,3 4,p,4 4,m,4 5,p,5 5,m,5 6,p,6 6,m,6",
     # the same; and 3 and 5 that are outside, before they are compared with each other
-    "three-inwards-below": "report,10,60024 1,p,1 1,m,1 2,p,2 2,m,2 3,p,3 3,m,3 4,p,4 4,m,4 5,p,5 5,m,5 6,p,6 6,m,6 7,p,7 7,m,7 "
-                           "8,p,8 8,m,8",
+    "wide/three-inwards-below": "report,10,60024 1,p,1 1,m,1 2,p,2 2,m,2 3,p,3 3,m,3 4,p,4 4,m,4 5,p,5 5,m,5 6,p,6 6,m,6 7,p,7 7,m,7 "
+                                "8,p,8 8,m,8",
     # four reads and four ends; 10,002, 10,004, 10,006, 10,008; 1
-    "four-above": "report,9,40029 1,p,1 1,m,1 2,p,2 2,m,2 3,p,3 3,m,3 4,p,4 4,m,4 5,p,5 5,m,5 6,p,6 6,m,6 7,p,7 7,m,7 8,p,8 8,m,8",
+    "wide/four-above": "report,9,40029 1,p,1 1,m,1 2,p,2 2,m,2 3,p,3 3,m,3 4,p,4 4,m,4 5,p,5 5,m,5 6,p,6 6,m,6 7,p,7 7,m,7 8,p,8 8,m,8",
     # two reads and two ends; 20,001, 20,003; 1 at the last comparison, 1 after it
-    "above-and-below": "report,6,40010 1,p,1 1,m,1 2,p,2 2,m,2 3,p,3 3,m,3 4,p,4 4,m,4 5,p,5 5,m,none",
+    "wide/above-and-below": "report,6,40010 1,p,1 1,m,1 2,p,2 2,m,2 3,p,3 3,m,3 4,p,4 4,m,4 5,p,5 5,m,none",
+    # -1 to 2: w = 4 numbers, w + 2 = 6 patterns of one variable, w * w + 4 * w + 8 = 40 of two. With variable 1 below there are w + 4 = 8
+    # of these, 3 with variable 2 below, 4 inside, 1 above; with variable 1 inside 24, which are 4, 16, 4; with variable 1 above 8, which
+    # are 1, 4, 3. Variable 1 is less in 1 + 4 + 1, in 6 + 4 and in 1, which are 17. At the reads 1 and 6, at 3 and 4 all 40 and the 32
+    # that are not below. Then 8, 5, 3, 4, 1; 24, 20, 4, 16, 4; 8, 7, 1, 4, 3. At `nop` 17, at `stop` 40 and, after the end of the tape,
+    # the 6 with 0 in variable 2.
+    # 1 + 6 + 40 + 32 + 21 + 68 + 23 + 17 + 40 + 6
+    "nine/pairs-around-0": "report,21,254 1,p,1 1,m,1 2,p,2 2,m,2 3,p,3 3,m,3 4,p,4 4,m,4 "
+                           "5,p,4 5,m,4 6,p,5 6,m,5 7,p,5 7,m,5 8,p,6 8,m,none 9,p,6 9,m,none "
+                           "10,p,5 10,m,5 11,p,6 11,m,6 12,p,none 12,m,6 13,p,7 13,m,7 14,p,7 14,m,none "
+                           "15,p,5 15,m,5 16,p,6 16,m,6 17,p,none 17,m,6 18,p,none 18,m,7 19,p,7 19,m,7",
+    # the same; variable 2 is less as often
+    "nine/pairs-around-0-exchanged": "report,21,254 1,p,1 1,m,1 2,p,2 2,m,2 3,p,3 3,m,3 4,p,4 4,m,4 "
+                                     "5,p,4 5,m,4 6,p,5 6,m,5 7,p,5 7,m,5 8,p,none 8,m,6 9,p,none 9,m,6 "
+                                     "10,p,5 10,m,5 11,p,6 11,m,6 12,p,6 12,m,none 13,p,7 13,m,7 14,p,none 14,m,7 "
+                                     "15,p,5 15,m,5 16,p,6 16,m,6 17,p,6 17,m,none 18,p,7 18,m,none 19,p,7 19,m,7",
+    # 0 alone: w = 1. Two variables that are inside are equal. 1 + 3 + 13 + 8; 5, 2, 3, 1, 1; 3, 2, 1, 1, 1; 5, 4, 1, 1, 3; 5 + 13 + 3
+    "nine/pairs-of-0": "report,21,80 1,p,1 1,m,1 2,p,2 2,m,2 3,p,3 3,m,3 4,p,4 4,m,4 "
+                       "5,p,4 5,m,4 6,p,5 6,m,5 7,p,5 7,m,5 8,p,6 8,m,none 9,p,6 9,m,none "
+                       "10,p,5 10,m,5 11,p,6 11,m,6 12,p,none 12,m,6 13,p,none 13,m,7 14,p,7 14,m,none "
+                       "15,p,5 15,m,5 16,p,6 16,m,6 17,p,none 17,m,6 18,p,none 18,m,7 19,p,7 19,m,7",
+    # -2 to 0: w = 3. The first record goes to variable 4, the second to variable 2; 1 and 3 stay 0.
+    # 1 + 5 + 29 + 22; 7, 4, 3, 3, 1; 15, 12, 3, 9, 3; 7, 6, 1, 3, 3; 12 + 29 + 5
+    "nine/pairs-to-0": "report,21,183 1,p,1 1,m,1 2,p,2 2,m,2 3,p,3 3,m,3 4,p,4 4,m,4 "
+                       "5,p,4 5,m,4 6,p,5 6,m,5 7,p,5 7,m,5 8,p,6 8,m,none 9,p,6 9,m,none "
+                       "10,p,5 10,m,5 11,p,6 11,m,6 12,p,none 12,m,6 13,p,7 13,m,7 14,p,7 14,m,none "
+                       "15,p,5 15,m,5 16,p,6 16,m,6 17,p,none 17,m,6 18,p,none 18,m,7 19,p,7 19,m,7",
+    # 0 to 1: w = 2. Variable 1 stays 0. 1 + 4 + 20 + 14; 6, 3, 3, 2, 1; 8, 6, 2, 4, 2; 6, 5, 1, 2, 3; 8 + 20 + 4
+    "nine/pairs-from-0-exchanged": "report,21,125 1,p,1 1,m,1 2,p,2 2,m,2 3,p,3 3,m,3 4,p,4 4,m,4 "
+                                   "5,p,4 5,m,4 6,p,5 6,m,5 7,p,5 7,m,5 8,p,none 8,m,6 9,p,none 9,m,6 "
+                                   "10,p,5 10,m,5 11,p,6 11,m,6 12,p,6 12,m,none 13,p,7 13,m,7 14,p,none 14,m,7 "
+                                   "15,p,5 15,m,5 16,p,6 16,m,6 17,p,6 17,m,none 18,p,7 18,m,none 19,p,7 19,m,7",
+    # -1 to 1: 5 patterns of one variable, 29 of two, 22 with variable 1 not below. Inside 15, then 12 with variable 2 not below, 9 with
+    # both inside, 6 of them not less, 3 equal, which stay. Below 7, then 3, of which 2 are not less and 1 is equal; above the same.
+    # 1 + 5 + 29 + 22; 15, 12, 9, 6, 3, 3; 7, 3, 2, 1, 1; 7, 3, 2, 1, 1; at `stop` 29 and, after the end of the tape, 5
+    "nine/like-pairs": "report,22,167 1,p,1 1,m,1 2,p,2 2,m,2 3,p,3 3,m,3 4,p,4 4,m,4 "
+                       "5,p,5 5,m,5 6,p,6 6,m,6 7,p,7 7,m,7 8,p,8 8,m,8 9,p,none 9,m,9 10,p,none 10,m,10 "
+                       "11,p,4 11,m,4 12,p,5 12,m,5 13,p,6 13,m,6 14,p,none 14,m,7 15,p,none 15,m,8 "
+                       "16,p,5 16,m,5 17,p,6 17,m,6 18,p,7 18,m,7 19,p,none 19,m,8 20,p,none 20,m,9 21,p,none 21,m,none",
+    # -2 to 3: variables 2 and 3 are -2 and 3. 1 up to the read; 8, 7, 6, 5 at the four comparisons by `less`; then four times 1 below, 1 at
+    # -2, 4 between, 1 at 3, 1 above; at `stop` 8 and, after the end of the tape, 1. 3 + 26 + 4 * 8 + 9
+    "nine/constants": "report,28,70 3,p,3 3,m,3 4,p,4 4,m,4 5,p,5 5,m,5 6,p,6 6,m,6 7,p,7 7,m,7 "
+                      "8,p,none 8,m,5 9,p,none 9,m,6 10,p,7 10,m,none 11,p,8 11,m,none "
+                      "12,p,none 12,m,7 13,p,none 13,m,8 14,p,none 14,m,9 15,p,10 15,m,none "
+                      "16,p,8 16,m,none 17,p,none 17,m,9 18,p,none 18,m,10 19,p,11 19,m,none "
+                      "20,p,8 20,m,none 21,p,none 21,m,9 22,p,none 22,m,10 23,p,none 23,m,11 "
+                      "24,p,6 24,m,none 25,p,7 25,m,none 26,p,none 26,m,8 27,p,none 27,m,9",
+    # 0 alone: 1 at the read, then 3 and 2, then twice 1 in each position, and 3 and 1 at `stop`
+    "nine/constants-of-0": "report,10,16 1,p,1 1,m,1 2,p,2 2,m,2 3,p,3 3,m,3 4,p,none 4,m,3 5,p,4 5,m,none "
+                           "6,p,none 6,m,4 7,p,none 7,m,5 8,p,4 8,m,none 9,p,none 9,m,5",
+    # 0 to 2: w = 3. A read has 1, and its end gives 1, seven times. At the tests w + 2, w + 4, w + 6, w + 8; 16 comparisons. Then three
+    # times w + 8; of these w + 7, w + 5, w + 3 are not farther than variable 3, 2, 1, and one is equal, for two comparisons. 1 at `stop`.
+    # 14 + 32 + 16 + 33 + 24 + 6 + 1
+    "nine/ranks-above": "report,40,126 1,p,1 1,m,1 2,p,2 2,m,2 3,p,3 3,m,3 4,p,4 4,m,4 5,p,5 5,m,5 6,p,6 6,m,6 7,p,7 7,m,7 8,p,8 8,m,8 "
+                        "9,p,none 9,m,9 10,p,10 10,m,none 11,p,11 11,m,none 12,p,12 12,m,none "
+                        "13,p,none 13,m,13 14,p,none 14,m,14 15,p,15 15,m,none 16,p,16 16,m,none "
+                        "17,p,none 17,m,17 18,p,none 18,m,18 19,p,none 19,m,19 20,p,20 20,m,none "
+                        "21,p,none 21,m,21 22,p,none 22,m,22 23,p,none 23,m,23 24,p,none 24,m,24 "
+                        "25,p,25 25,m,25 26,p,26 26,m,26 27,p,27 27,m,27 28,p,none 28,m,28 29,p,none 29,m,29 "
+                        "30,p,30 30,m,30 31,p,31 31,m,31 32,p,32 32,m,32 33,p,none 33,m,33 34,p,none 34,m,34 "
+                        "35,p,35 35,m,35 36,p,36 36,m,36 37,p,37 37,m,37 38,p,none 38,m,38 39,p,none 39,m,39",
+    # -2 to 0: the same from the other side, where the greater rank is less
+    "nine/ranks-below": "report,40,126 1,p,1 1,m,1 2,p,2 2,m,2 3,p,3 3,m,3 4,p,4 4,m,4 5,p,5 5,m,5 6,p,6 6,m,6 7,p,7 7,m,7 8,p,8 8,m,8 "
+                        "9,p,none 9,m,9 10,p,none 10,m,10 11,p,none 11,m,11 12,p,none 12,m,12 "
+                        "13,p,13 13,m,none 14,p,none 14,m,14 15,p,none 15,m,15 16,p,none 16,m,16 "
+                        "17,p,17 17,m,none 18,p,18 18,m,none 19,p,none 19,m,19 20,p,none 20,m,20 "
+                        "21,p,21 21,m,none 22,p,22 22,m,none 23,p,23 23,m,none 24,p,none 24,m,24 "
+                        "25,p,25 25,m,25 26,p,26 26,m,26 27,p,27 27,m,27 28,p,none 28,m,28 29,p,none 29,m,29 "
+                        "30,p,30 30,m,30 31,p,31 31,m,31 32,p,32 32,m,32 33,p,none 33,m,33 34,p,none 34,m,34 "
+                        "35,p,35 35,m,35 36,p,36 36,m,36 37,p,37 37,m,37 38,p,none 38,m,38 39,p,none 39,m,39",
+    # 0 to 2: w = 3. A read has 1, and its end gives 1; after it are w + 2, w + 4, w + 6, w + 8, and of the last three 3, 5, 7 are above.
+    # 16 comparisons, and 1 at `stop`. 8 + 32 + 15 + 16 + 1
+    "nine/ranks-above-inwards": "report,28,72 1,p,1 1,m,1 2,p,2 2,m,2 3,p,3 3,m,3 4,p,4 4,m,4 5,p,5 5,m,5 6,p,6 6,m,6 "
+                                "7,p,7 7,m,7 8,p,8 8,m,8 9,p,9 9,m,9 10,p,10 10,m,10 11,p,11 11,m,11 "
+                                "12,p,none 12,m,12 13,p,none 13,m,13 14,p,none 14,m,14 15,p,none 15,m,15 "
+                                "16,p,16 16,m,none 17,p,none 17,m,17 18,p,none 18,m,18 19,p,none 19,m,19 "
+                                "20,p,20 20,m,none 21,p,21 21,m,none 22,p,none 22,m,22 23,p,none 23,m,23 "
+                                "24,p,24 24,m,none 25,p,25 25,m,none 26,p,26 26,m,none 27,p,none 27,m,27",
+    # -2 to 0: the same from the other side, where variable 1, the farthest, is the least
+    "nine/ranks-below-inwards": "report,28,72 1,p,1 1,m,1 2,p,2 2,m,2 3,p,3 3,m,3 4,p,4 4,m,4 5,p,5 5,m,5 6,p,6 6,m,6 "
+                                "7,p,7 7,m,7 8,p,8 8,m,8 9,p,9 9,m,9 10,p,10 10,m,10 11,p,11 11,m,11 "
+                                "12,p,none 12,m,12 13,p,13 13,m,none 14,p,14 14,m,none 15,p,15 15,m,none "
+                                "16,p,none 16,m,16 17,p,none 17,m,17 18,p,18 18,m,none 19,p,19 19,m,none "
+                                "20,p,none 20,m,20 21,p,none 21,m,21 22,p,none 22,m,22 23,p,23 23,m,none "
+                                "24,p,none 24,m,24 25,p,none 25,m,25 26,p,none 26,m,26 27,p,none 27,m,27",
+    # -1 to 2: w = 4. A read has 1; after it are 6, of which 5, 4, 3, 2 are not under -1, 0, 1, 2. 16 comparisons, 1 at `stop`, and 3
+    # after the end of the tape: variable 2 is 0 before its read and after it. 4 + 24 + 14 + 16 + 1 + 3
+    "nine/inside-neighbours": "report,29,62 1,p,1 1,m,1 2,p,2 2,m,2 3,p,3 3,m,3 4,p,4 4,m,4 5,p,5 5,m,5 6,p,6 6,m,6 "
+                              "7,p,7 7,m,7 8,p,8 8,m,8 9,p,9 9,m,9 10,p,10 10,m,10 11,p,11 11,m,11 12,p,12 12,m,12 "
+                              "13,p,none 13,m,13 14,p,14 14,m,none 15,p,15 15,m,none 16,p,16 16,m,none "
+                              "17,p,none 17,m,17 18,p,none 18,m,18 19,p,19 19,m,none 20,p,20 20,m,none "
+                              "21,p,none 21,m,21 22,p,none 22,m,22 23,p,none 23,m,23 24,p,24 24,m,none "
+                              "25,p,none 25,m,25 26,p,none 26,m,26 27,p,none 27,m,27 28,p,none 28,m,28",
+    # -1 to 1: after a read are 5, of which 4, 4, 2, 2 are not under -1, -1, 1, 1. 4 + 20 + 12 + 16 + 1 + 4
+    "nine/inside-equal": "report,29,57 1,p,1 1,m,1 2,p,2 2,m,2 3,p,3 3,m,3 4,p,4 4,m,4 5,p,5 5,m,5 6,p,6 6,m,6 "
+                         "7,p,7 7,m,7 8,p,8 8,m,8 9,p,9 9,m,9 10,p,10 10,m,10 11,p,11 11,m,11 12,p,12 12,m,12 "
+                         "13,p,none 13,m,13 14,p,none 14,m,14 15,p,15 15,m,none 16,p,16 16,m,none "
+                         "17,p,none 17,m,17 18,p,none 18,m,18 19,p,19 19,m,none 20,p,20 20,m,none "
+                         "21,p,none 21,m,21 22,p,none 22,m,22 23,p,none 23,m,23 24,p,none 24,m,24 "
+                         "25,p,none 25,m,25 26,p,none 26,m,26 27,p,none 27,m,27 28,p,none 28,m,28",
+    # -2 to 3: w = 6. A read has 1, and its end gives 1; after it are w + 2, and w + 4 with variable 1 below: 3 below, 6 inside, 1 above. Of
+    # these 7 are not under -2, and 2 not under 3. 8 + 8 + 10 + 7 + 10 + 2 + 10 + 16 + 1
+    "nine/below-low-high-above": "report,27,72 1,p,1 1,m,1 2,p,2 2,m,2 3,p,3 3,m,3 4,p,4 4,m,4 5,p,5 5,m,5 6,p,6 6,m,6 "
+                                 "7,p,7 7,m,7 8,p,8 8,m,8 9,p,9 9,m,9 10,p,10 10,m,10 "
+                                 "11,p,none 11,m,11 12,p,12 12,m,none 13,p,13 13,m,none 14,p,14 14,m,none "
+                                 "15,p,none 15,m,15 16,p,none 16,m,16 17,p,17 17,m,none 18,p,18 18,m,none "
+                                 "19,p,none 19,m,19 20,p,none 20,m,20 21,p,none 21,m,21 22,p,22 22,m,none "
+                                 "23,p,none 23,m,23 24,p,none 24,m,24 25,p,none 25,m,25 26,p,none 26,m,26",
+    # -1 to 1: w = 3. A read has 1, and its end gives 1; after it are w + 2, w + 4, w + 6, and w + 8: 5 below, 3 inside, 3 above.
+    # 8 + 5 + 7 + 9 + 11 + 16 + 1. Variable 2 is the least, then 1, 3, 4
+    "nine/two-below-two-above": "report,25,57 1,p,1 1,m,1 2,p,2 2,m,2 3,p,3 3,m,3 4,p,4 4,m,4 "
+                                "5,p,5 5,m,5 6,p,6 6,m,6 7,p,7 7,m,7 8,p,8 8,m,8 "
+                                "9,p,none 9,m,9 10,p,none 10,m,10 11,p,11 11,m,none 12,p,12 12,m,none "
+                                "13,p,13 13,m,none 14,p,none 14,m,14 15,p,15 15,m,none 16,p,16 16,m,none "
+                                "17,p,none 17,m,17 18,p,none 18,m,18 19,p,none 19,m,19 20,p,20 20,m,none "
+                                "21,p,none 21,m,21 22,p,none 22,m,22 23,p,none 23,m,23 24,p,none 24,m,24",
+    # a read has 1, and its end gives 1; after it are 20,001, 20,003 and 20,005; of these 4 are not under 9999, 1 is 9999; 9 comparisons; 1
+    "wide-nine/inside-9999": "report,17,60029 1,p,1 1,m,1 2,p,2 2,m,2 3,p,3 3,m,3 4,p,4 4,m,4 5,p,5 5,m,5 6,p,6 6,m,6 7,p,7 7,m,7 "
+                             "8,p,none 8,m,8 9,p,9 9,m,none 10,p,10 10,m,none "
+                             "11,p,none 11,m,11 12,p,none 12,m,12 13,p,13 13,m,none "
+                             "14,p,none 14,m,14 15,p,none 15,m,15 16,p,none 16,m,16",
 }
 
 
@@ -593,10 +795,10 @@ def main():
         # the constants that 4,096 cells are too few for: each flow with a read
         if x.topic == "constants-9999":
             assert (x.exits is None) == ("read" in x.text), x.name
-    wide = {x.name: x for x in flows if x.topic == "wide"}
+    named = {f"{x.topic}/{x.name}": x for x in flows}
     for name, report in BY_HAND.items():
-        assert wide[name].report() == report.replace(" ", "\n") + "\n", name
-    assert "refused,10,0" in wide["counted-9-far"].samples()
+        assert named[name].report() == report.replace(" ", "\n") + "\n", name
+    assert "refused,10,0" in named["wide/counted-9-far"].samples()
     for name, content in made.items():
         assert "/data/" not in name or len(content) <= 131072, "the programs lend a row of that size"
     agreed = f"{len(flows)} flows agree; {bounded} searched whole by bounds, {listed} by all short tapes"

@@ -158,7 +158,11 @@ fn orders(rng: &mut Rng) -> Flow {
             }
         }
     }
-    // So far 1 stands for the next instruction and 0 for `stop`.
+    Flow { tapes, outputs: 0, variables, instructions: linked(instructions) }
+}
+
+/// The instructions and `stop`; for a target so far 1 stands for the next instruction and 0 for `stop`.
+fn linked(mut instructions: Vec<Instruction>) -> Vec<Instruction> {
     let stop = instructions.len() + 1;
     for (i, x) in instructions.iter_mut().enumerate() {
         if let Instruction::Read { p, m, .. }
@@ -171,7 +175,37 @@ fn orders(rng: &mut Rng) -> Flow {
         }
     }
     instructions.push(Instruction::Stop);
-    Flow { tapes, outputs: 0, variables, instructions }
+    instructions
+}
+
+/// Records above the constants, or below, each put at a place among those before it, so that ranks move; and any two compared.
+fn placed(rng: &mut Rng) -> Flow {
+    let variables = 2 + rng.below(3);
+    let (above, c) = (rng.percent(50), rng.from(0, 3));
+    let farther = |u: usize, v: usize| {
+        let (u, v) = if above { (u, v) } else { (v, u) };
+        Instruction::Less { u, v, p: 1, m: 0 }
+    };
+    // The variables with a record, the nearest first.
+    let mut order: Vec<usize> = Vec::new();
+    let mut instructions = Vec::new();
+    for n in 1..=variables + rng.below(4) {
+        let v = if n <= variables { n } else { 1 + rng.below(variables) };
+        order.retain(|u| *u != v);
+        let at = rng.below(order.len() + 1);
+        instructions.push(Instruction::Read { tape: 1, v, p: 1, m: 0 });
+        instructions.push(match (at, above) {
+            (0, true) => Instruction::Over { c, v, p: 1, m: 0 },
+            (0, false) => Instruction::Under { v, c: -c, p: 1, m: 0 },
+            _ => farther(order[at - 1], v),
+        });
+        instructions.extend(order.get(at).map(|next| farther(v, *next)));
+        order.insert(at, v);
+        for _ in 0..2 {
+            instructions.push(Instruction::Less { u: *rng.pick(&order), v: *rng.pick(&order), p: 1, m: 1 });
+        }
+    }
+    Flow { tapes: 1, outputs: 0, variables, instructions: linked(instructions) }
 }
 
 /// Constants far apart, set, copied and compared with the one variable that is read.
@@ -433,6 +467,7 @@ pub fn flow(rng: &mut Rng) -> Flow {
         6 => orders(rng),
         7 => counters(rng),
         8 => far_apart(rng),
+        9 => placed(rng),
         _ => mixed(rng),
     }
 }

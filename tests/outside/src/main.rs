@@ -2,10 +2,11 @@
 //!
 //!     outside [SEED [ROUNDS]]
 //!
-//! The implementation (documents/) is written from documents 01, 02 (T-02, T-08, T-09) and 000. Some of the texts go to the program
+//! The implementation (documents/) is written from documents 01, 02 (T-02, T-05, T-08, T-09) and 000. Some of the texts go to the program
 //! `report` too, if its path is in REPORT. Prints the seed, the cases by sort and outcome, those of the empty text and some with wide
-//! constants again by themselves, and `N cases, M differences`. A difference is printed with its case in full, and the status is then 1; it
-//! is 1 too if an outcome that documents 01 and 02 know was never met.
+//! constants again by themselves, the reports by the pairs of variables that they compare, and `N cases, M differences`. A difference is
+//! printed with its case in full, and the status is then 1; it is 1 too if an outcome that documents 01 and 02 know, or one of those pairs,
+//! was never met.
 
 mod cases;
 mod documents;
@@ -17,9 +18,11 @@ mod rng;
 
 use cases::{Checked, Known, RunCase, SampleCase, TapeCase};
 use documents::flow::{Flow, Refusal};
+use documents::search::Pair;
 use documents::{pieces, reader, sample, search};
 use ffi::Words;
 use rng::Rng;
+use std::cmp::Ordering;
 use std::collections::BTreeMap;
 use std::fmt::Debug;
 use std::process::ExitCode;
@@ -49,16 +52,32 @@ const OF_WIDE: [(&str, &[&str]); 3] = [
     ("sample", &["a record above 9999", "a record below -9999"]),
 ];
 
+/// The pairs that must be compared in reports that are given, by document 02 (T-05): the nine pairs of positions, the three like ones in
+/// each order.
+fn of_pairs() -> impl Iterator<Item = Pair> {
+    let orders = [Ordering::Less, Ordering::Equal, Ordering::Greater];
+    let pairs = (0..9).flat_map(move |n| orders.map(|order| (n / 3, n % 3, order)));
+    pairs.filter(|(a, b, order)| a == b || a.cmp(b) == *order)
+}
+
+fn named(&(a, b, order): &Pair) -> String {
+    let positions = ["below", "inside", "above"];
+    let like = if a == b { format!(", {order:?}").to_lowercase() } else { String::new() };
+    format!("{} and {}{like}", positions[a], positions[b])
+}
+
 /// Cases by sort and outcome.
 type Counts = BTreeMap<(&'static str, String), usize>;
 
-/// Cases, those of the empty text and with wide constants among them, and differences; the largest numbers met.
+/// Cases, those of the empty text and with wide constants among them, reports given by what they compare, and differences; the largest
+/// numbers met.
 #[derive(Default)]
 struct Tally {
     seed: u64,
     by_outcome: Counts,
     of_empty: Counts,
     of_wide: Counts,
+    of_pairs: BTreeMap<Pair, usize>,
     confirmed: usize,
     past: usize,
     configurations: usize,
@@ -142,6 +161,9 @@ impl Tally {
                 }
             }
         }
+        for pair in of_pairs().filter(|pair| !self.of_pairs.contains_key(pair)) {
+            missing.push(format!("report with a comparison of {}", named(&pair)));
+        }
         if self.past == 0 {
             missing.push("cells past 65,536 after a refusal".to_string());
         }
@@ -162,6 +184,9 @@ impl Tally {
         }
         for ((sort, outcome), count) in &self.of_wide {
             println!("{count:7} {sort} with wide constants: {outcome}");
+        }
+        for (pair, count) in &self.of_pairs {
+            println!("{count:7} report with a comparison of {}", named(pair));
         }
         println!("searches of our own confirmed by trial of numbers: {}", self.confirmed);
         println!("refusals with more than 65,536 cells: {}", self.past);
@@ -324,7 +349,7 @@ fn confirm(tally: &mut Tally, text: &[u8], known: &Known) {
     }
     let tried = search::by_numbers(flow, reach);
     tally.confirmed += 1;
-    if (tried.configurations, &tried.p, &tried.m) != (census.configurations, &census.p, &census.m) {
+    if (tried.configurations, &tried.p, &tried.m, &tried.pairs) != (census.configurations, &census.p, &census.m, &census.pairs) {
         tally.differ("census of our own", &[format!("by patterns {census:?}, by trial of numbers {tried:?}")], text, &reach);
     }
 }
@@ -338,6 +363,8 @@ fn report(rng: &mut Rng, tally: &mut Tally, left: &mut Vec<Words>, text: &[u8], 
         let (wide, many) = (hi - lo >= 9_999, census.as_ref().is_some_and(|c| c.configurations > 60_000));
         tally.note_wide("report", "given, more than 60,000 configurations", wide && many && checked.outcome == "given");
         tally.note_wide("report", "refused 9", wide && checked.outcome == "refused 9");
+        let given = census.as_ref().filter(|_| checked.outcome == "given");
+        given.iter().flat_map(|c| &c.pairs).for_each(|pair| *tally.of_pairs.entry(*pair).or_default() += 1);
     }
     tally.note_search("report", checked, text, &"", cells);
     *left = lent.now().to_vec();

@@ -1,5 +1,5 @@
 //! The test pieces of document 01 ("Test pieces"), cases `-0` and 1001 as document 02 (T-02, T-09) has them, flow A ("The report"), and of
-//! document 02 the empty text (T-08) and the constants up to 9999 (T-09).
+//! document 02 the nine pairs (T-05), the empty text (T-08) and the constants up to 9999 (T-09).
 
 use super::flow::{Flow, Instruction, Refusal};
 use super::interpreter::{run, End, Ran};
@@ -291,6 +291,30 @@ fn reports() {
     }
 }
 
+/// Two records, below -1, inside or above 1: a comparison for each of the nine pairs, 7 to 9, 12 to 14 and 17 to 19.
+const NINE: &str = "flow,1,0,2\n1,read,1,1,2,21\n2,read,1,2,3,21\n3,under,1,-1,5,4\n4,over,1,1,15,10\n\
+    5,under,2,-1,7,6\n6,over,1,2,9,8\n7,less,1,2,20,21\n8,less,1,2,20,21\n9,less,1,2,20,21\n\
+    10,under,2,-1,12,11\n11,over,1,2,14,13\n12,less,1,2,20,21\n13,less,1,2,20,21\n14,less,1,2,20,21\n\
+    15,under,2,-1,17,16\n16,over,1,2,19,18\n17,less,1,2,20,21\n18,less,1,2,20,21\n19,less,1,2,20,21\n20,nop,21\n21,stop\n";
+
+/// The report of NINE, the configurations counted by hand: 1, 5, 29 and 22; with variable 1 below 7, 4, 3, 3, 1, inside 15, 12, 3, 9, 3,
+/// above 7, 6, 1, 3, 3; at `nop` the 12 that are less; 29 and, after the end of the tape, 5.
+fn nine() {
+    #[rustfmt::skip]
+    let report = [
+        "report,21,183", "1,p,1", "1,m,1", "2,p,2", "2,m,2", "3,p,3", "3,m,3", "4,p,4", "4,m,4",
+        "5,p,4", "5,m,4", "6,p,5", "6,m,5", "7,p,5", "7,m,5", "8,p,6", "8,m,none", "9,p,6", "9,m,none",
+        "10,p,5", "10,m,5", "11,p,6", "11,m,6", "12,p,none", "12,m,6", "13,p,7", "13,m,7", "14,p,7", "14,m,none",
+        "15,p,5", "15,m,5", "16,p,6", "16,m,6", "17,p,none", "17,m,6", "18,p,none", "18,m,7", "19,p,7", "19,m,7", "",
+    ];
+    assert_eq!(lines(NINE.as_bytes(), 183), report.join("\n"));
+    assert_eq!(lines(NINE.as_bytes(), 182), "refused,9,0\n");
+    let flow = flow(NINE);
+    let found = census(&flow, 4096).expect("few configurations");
+    assert_eq!(found.pairs.len(), 15, "six unlike pairs, and three like ones in each order");
+    assert_eq!(by_numbers(&flow, i64::from(found.depth) + 1), found);
+}
+
 /// Two records above 9999, the second one less.
 const BEYOND: &str = "flow,1,0,2\n1,read,1,1,2,6\n2,over,9999,1,3,2\n3,read,1,2,4,6\n4,over,9999,2,5,4\n5,less,2,1,6,6\n6,stop\n";
 
@@ -443,7 +467,7 @@ fn of_empty() {
         assert_eq!(lines(b"", cells), "report,1,1\n");
     }
     assert_eq!(lines(b"", 0), "refused,9,0\n");
-    let found = Census { configurations: 1, p: vec![None], m: vec![None], depth: 0 };
+    let found = Census { configurations: 1, p: vec![None], m: vec![None], depth: 0, pairs: Default::default() };
     assert_eq!(census(&empty, 1), Ok(found.clone()));
     assert_eq!(census(&empty, 0), Err(refuse(9)));
     assert_eq!(by_numbers(&empty, 1), found);
@@ -464,6 +488,7 @@ pub fn check() {
     constants();
     about_empty();
     reports();
+    nine();
     wide_reports();
     samples();
     of_empty();

@@ -1,26 +1,37 @@
 //! The search for all reachable configurations: document 01, "Distances and configurations".
 
 use super::flow::{Flow, Instruction, Refusal};
-use std::collections::HashSet;
+use std::cmp::Ordering;
+use std::collections::{BTreeSet, HashSet};
 use std::hash::{BuildHasherDefault, Hasher};
 
 /// More cells than these do not count.
 const CELLS: usize = 65_536;
 
+/// Two variables that are compared: the position of each, 0 below C1, 1 inside, 2 above C2, and the order of their values.
+pub type Pair = (usize, usize, Ordering);
+
+fn pair<T: Ord>(x: T, y: T, low: T, high: T) -> Pair {
+    let position = |z: &T| usize::from(*z >= low) + usize::from(*z > high);
+    (position(&x), position(&y), x.cmp(&y))
+}
+
 /// The reachable configurations, the distances of exit p and exit m of instruction i at i - 1 (None for none, and for an
-/// instruction without two exits), and the greatest number of steps that a configuration takes to be arrived at.
+/// instruction without two exits), the greatest number of steps that a configuration takes to be arrived at, and the pairs of two
+/// different variables that are compared in reachable configurations.
 #[derive(Clone, Debug, PartialEq, Eq)]
 pub struct Census {
     pub configurations: usize,
     pub p: Vec<Option<u32>>,
     pub m: Vec<Option<u32>>,
     pub depth: u32,
+    pub pairs: BTreeSet<Pair>,
 }
 
 impl Census {
     fn new(flow: &Flow) -> Census {
         let none = vec![None; flow.instructions.len()];
-        Census { configurations: 0, p: none.clone(), m: none, depth: 0 }
+        Census { configurations: 0, p: none.clone(), m: none, depth: 0, pairs: BTreeSet::new() }
     }
 
     /// Exit p or m of instruction `at` is taken with `distance` steps; the first taking counts. Gives that exit's target.
@@ -179,7 +190,11 @@ impl Search {
                 after[v - 1] = c as i32;
                 self.arrive(n, ended, after)
             }
-            Instruction::Less { u, v, p, m } => self.arrive(compare(pattern[u - 1] < pattern[v - 1], p, m), ended, pattern),
+            Instruction::Less { u, v, p, m } => {
+                let target = compare(pattern[u - 1] < pattern[v - 1], p, m);
+                census.pairs.extend((u != v).then(|| pair(pattern[u - 1], pattern[v - 1], self.low, self.high)));
+                self.arrive(target, ended, pattern)
+            }
             Instruction::Over { c, v, p, m } => self.arrive(compare((c as i32) < pattern[v - 1], p, m), ended, pattern),
             Instruction::Under { v, c, p, m } => self.arrive(compare(pattern[v - 1] < c as i32, p, m), ended, pattern),
             Instruction::Stop => Ok(()),
@@ -264,7 +279,10 @@ pub fn by_numbers(flow: &Flow, reach: i64) -> Census {
                 Instruction::Put { n, .. } | Instruction::Nop { n } => go(n, *ended, None),
                 Instruction::Copy { u, v, n } => go(n, *ended, Some((v, held[u - 1]))),
                 Instruction::Set { c, v, n } => go(n, *ended, Some((v, c))),
-                Instruction::Less { u, v, p, m } => go(take(p, m, held[u - 1] < held[v - 1]), *ended, None),
+                Instruction::Less { u, v, p, m } => {
+                    go(take(p, m, held[u - 1] < held[v - 1]), *ended, None);
+                    census.pairs.extend((u != v).then(|| pair(held[u - 1], held[v - 1], low, high)));
+                }
                 Instruction::Over { c, v, p, m } => go(take(p, m, c < held[v - 1]), *ended, None),
                 Instruction::Under { v, c, p, m } => go(take(p, m, held[v - 1] < c), *ended, None),
                 Instruction::Stop => {}
