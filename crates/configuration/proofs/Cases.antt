@@ -1,61 +1,97 @@
--- The nine cases in which two codes are compared, by their number: three times the position of the one plus the position of the other. `position` and
--- `less` answer by these laws.
-use mathlib.Core.Path.{_≡_, refl, sym, ap₂}
-use mathlib.Core.Bool.{Bool, true, false, cond}
+-- A code lies inside, above or below, and has its mark by that. Two codes are compared in nine cases, by their number: three times the position of the
+-- one plus the position of the other. `position` and `less` answer by these laws.
+use mathlib.Core.Path.{_≡_, refl, sym, ap, ap₂}
+use mathlib.Core.Bool.{Bool, true, false}
 use mathlib.Core.List.{List, [], _∷_}
 use Prim.Native.Nat.{ℕ, zero, suc, _+_, _*_, _-_, _<_, _≤_}
 use native.Mathlib.Omega.{arith}
 use lib.ListN.{getD}
-use lib.IntN.{pos, _+ℤ_}
+use lib.IntN.{ℤ, pos, _+ℤ_}
 use lib.Dec.{ltb, ltb→lt, lt→ltb}
-use borrow.Author.Tests.{ltb-false, lt-ltb, le-ltb}
+use borrow.Author.Tests.{ltb-true, ltb-false, lt-ltb, le-ltb}
 use Rattle.model.specs.Pattern.{Mark, above, inside, below}
 use Rattle.model.specs.inner.Marks.{lessMark}
 use Rattle.model.proofs.Integers.{same-test}
 use Rattle.configuration.specs.inner.Pattern.{markOf, positionOf, lessOf}
 
+-- ---- where a code lies, and its mark
+pub mark-of-inside : (lo : ℤ) (w c : ℕ) → c < w → markOf lo w c ≡ inside (lo +ℤ pos c)
+unfolding markOf
+mark-of-inside lo w c h = rw (lt-ltb c w h)
+
+pub mark-above : (lo : ℤ) (w c n : ℕ) → c + 1 ≡ w + n → 0 < n → n ≤ 4 → markOf lo w c ≡ above n
+unfolding markOf
+mark-above lo w c n e p q = rw (le-ltb c w (omega arith), lt-ltb c (w + 4) (omega arith)) (ap above (omega arith))
+
+pub mark-below : (lo : ℤ) (w c n : ℕ) → c + 1 ≡ w + 4 + n → 0 < n → markOf lo w c ≡ below n
+unfolding markOf
+mark-below lo w c n e p = rw (le-ltb c w (omega arith), le-ltb c (w + 4) (omega arith)) (ap below (omega arith))
+
+pub data Lies (lo : ℤ) (w c : ℕ) : Type 0 where
+  lies-inside : c < w → markOf lo w c ≡ inside (lo +ℤ pos c) → Lies lo w c
+  lies-above : (n : ℕ) → c + 1 ≡ w + n → 0 < n → n ≤ 4 → markOf lo w c ≡ above n → Lies lo w c
+  lies-below : (n : ℕ) → c + 1 ≡ w + 4 + n → 0 < n → markOf lo w c ≡ below n → Lies lo w c
+
+pub lies : (lo : ℤ) (w c : ℕ) → Lies lo w c
+lies lo w c = go (ltb c w) (ltb c (w + 4)) refl refl
+  where
+    go : (a b : Bool) → ltb c w ≡ a → ltb c (w + 4) ≡ b → Lies lo w c
+    go true b h k = let l = ltb-true c w h in lies-inside l (mark-of-inside lo w c l)
+    go false true h k =
+        let l = ltb-false c w h in
+        let m = ltb-true c (w + 4) k in
+        let e : c + 1 ≡ w + (c + 1 - w) = omega arith in
+        let p : 0 < c + 1 - w = omega arith in
+        let q : c + 1 - w ≤ 4 = omega arith in
+        lies-above (c + 1 - w) e p q (mark-above lo w c (c + 1 - w) e p q)
+    go false false h k =
+        let l = ltb-false c (w + 4) k in
+        let e : c + 1 ≡ w + 4 + (c + 1 - (w + 4)) = omega arith in
+        let p : 0 < c + 1 - (w + 4) = omega arith in
+        lies-below (c + 1 - (w + 4)) e p (mark-below lo w c (c + 1 - (w + 4)) e p)
+
 -- ---- position
 pub at-inside : (w c : ℕ) → c < w → 1 ≡ positionOf (markOf (pos 0) w c)
-unfolding markOf positionOf
-at-inside w c h = rw (lt-ltb c w h)
+unfolding positionOf
+at-inside w c h = sym (ap positionOf (mark-of-inside (pos 0) w c h))
 
 pub at-above : (w c : ℕ) → w ≤ c → c < w + 4 → 2 ≡ positionOf (markOf (pos 0) w c)
-unfolding markOf positionOf
-at-above w c h k = rw (le-ltb c w h, lt-ltb c (w + 4) k)
+unfolding positionOf
+at-above w c h k = sym (ap positionOf (mark-above (pos 0) w c (c + 1 - w) (omega arith) (omega arith) (omega arith)))
 
 pub at-below : (w c : ℕ) → w + 4 ≤ c → 0 ≡ positionOf (markOf (pos 0) w c)
-unfolding markOf positionOf
-at-below w c h = rw (le-ltb c w (omega arith), le-ltb c (w + 4) h)
+unfolding positionOf
+at-below w c h = sym (ap positionOf (mark-below (pos 0) w c (c + 1 - (w + 4)) (omega arith) (omega arith)))
 
 -- ---- less
 -- the answers of the nine cases, in the order of their numbers
 abbrev pub answers : (c d : ℕ) → List Bool
 answers c d = ltb d c ∷ true ∷ true ∷ false ∷ ltb c d ∷ true ∷ false ∷ false ∷ ltb c d ∷ []
 
--- the ranks of codes on one side are in the order of the codes
-less-by : (m c d : ℕ) → m ≤ c → m ≤ d → ltb c d ≡ ltb (c + 1 - m) (d + 1 - m)
-less-by m c d h k = same-test (ltb c d) (ltb (c + 1 - m) (d + 1 - m))
-    (λ t. lt→ltb (c + 1 - m) (d + 1 - m) (omega (arith, ltb→lt c d t)))
-    (λ t. lt→ltb c d (omega (arith, ltb→lt (c + 1 - m) (d + 1 - m) t)))
+-- of two codes on one side the greater has the greater rank
+less-by : (m c d j k : ℕ) → c + 1 ≡ m + j → d + 1 ≡ m + k → ltb c d ≡ ltb j k
+less-by m c d j k e f = same-test (ltb c d) (ltb j k)
+    (λ t. lt→ltb j k (omega (arith, ltb→lt c d t))) (λ t. lt→ltb c d (omega (arith, ltb→lt j k t)))
 
 cases : (w c d : ℕ) → getD (answers c d) (3 * positionOf (markOf (pos 0) w c) + positionOf (markOf (pos 0) w d)) false ≡ lessOf w c d
-unfolding markOf positionOf lessOf lessMark
-cases w c d = go (ltb c w) (ltb c (w + 4)) (ltb d w) (ltb d (w + 4)) refl refl refl refl
+unfolding positionOf lessOf lessMark
+cases w c d = go (lies (pos 0) w c) (lies (pos 0) w d)
   where
-    marked : Bool → Bool → ℕ → Mark
-    marked a b e = cond a (inside (pos 0 +ℤ pos e)) (cond b (above (e + 1 - w)) (below (e + 1 - (w + 4))))
+    from-zero : (e : ℕ) → e ≡ 0 + e
+    from-zero e = omega arith
 
-    go : (a b a′ b′ : Bool) → ltb c w ≡ a → ltb c (w + 4) ≡ b → ltb d w ≡ a′ → ltb d (w + 4) ≡ b′
-        → getD (answers c d) (3 * positionOf (marked a b c) + positionOf (marked a′ b′ d)) false ≡ lessMark (marked a b c) (marked a′ b′ d)
-    go false false false false h k h′ k′ = less-by (w + 4) d c (ltb-false d (w + 4) k′) (ltb-false c (w + 4) k)
-    go false false true b′ h k h′ k′ = refl
-    go false false false true h k h′ k′ = refl
-    go true b false false h k h′ k′ = refl
-    go true b true b′ h k h′ k′ = let from-zero : (e : ℕ) → e ≡ 0 + e = λ e. omega arith in ap₂ ltb (from-zero c) (from-zero d)
-    go true b false true h k h′ k′ = refl
-    go false true false false h k h′ k′ = refl
-    go false true true b′ h k h′ k′ = refl
-    go false true false true h k h′ k′ = less-by w c d (ltb-false c w h) (ltb-false d w h′)
+    go : Lies (pos 0) w c → Lies (pos 0) w d
+        → getD (answers c d) (3 * positionOf (markOf (pos 0) w c) + positionOf (markOf (pos 0) w d)) false
+        ≡ lessMark (markOf (pos 0) w c) (markOf (pos 0) w d)
+    go (lies-below j e p m) (lies-below k f q n) = rw (m, n) (less-by (w + 4) d c k j f e)
+    go (lies-below j e p m) (lies-inside k n) = rw (m, n)
+    go (lies-below j e p m) (lies-above k f q r n) = rw (m, n)
+    go (lies-inside j m) (lies-below k f q n) = rw (m, n)
+    go (lies-inside j m) (lies-inside k n) = rw (m, n) (ap₂ ltb (from-zero c) (from-zero d))
+    go (lies-inside j m) (lies-above k f q r n) = rw (m, n)
+    go (lies-above j e p o m) (lies-below k f q n) = rw (m, n)
+    go (lies-above j e p o m) (lies-inside k n) = rw (m, n)
+    go (lies-above j e p o m) (lies-above k f q r n) = rw (m, n) (less-by w c d j k e f)
 
 pub case-answer : (k w c d : ℕ) {p q : ℕ} → p ≡ positionOf (markOf (pos 0) w c) → q ≡ positionOf (markOf (pos 0) w d) → 3 * p + q ≡ k
     → getD (answers c d) k false ≡ lessOf w c d

@@ -76,7 +76,7 @@ codesOf w values = map (laneCode w values) values
 unfoldable pub laneOf : (pattern u : ℕ) → ℕ
 laneOf pattern u = getD (lanes pattern) u 0
 
--- the position of a value, as a number: 0 below C1, 1 from C1 to C2, 2 above C2
+-- the position number of a value: 0 below C1, 1 from C1 to C2, 2 above C2
 unfoldable pub positionOf : Mark → ℕ
 positionOf (below k) = 0
 positionOf (inside z) = 1
