@@ -1,0 +1,5 @@
+pub mod Rows
+pub mod Listed
+pub mod Own
+pub mod Census
+pub mod Dropped
