@@ -1,0 +1,14 @@
+-- `outside_row::three` meets its contract: the constant is the list, computed.
+use mathlib.Core.Path.{refl}
+use Rattle.model.specs.Pattern.{among, different, mark, pattern}
+use Rattle.outside.specs.Rows.{rows, keep, led, bind, flat}
+use Rattle.outside.specs.Outside.{ranksOf, same, isOwn, eight, outside}
+use Rattle.outside_row.proofs.three.Statement.{statement}
+use Rattle.outside_row.proofs.three.Tie as tie
+
+returns : tie.Need-returns
+unfolding outside isOwn same eight keep rows led bind flat ranksOf pattern mark different among
+returns c = refl
+
+pub three-spec : {M : Type 1} → statement M
+three-spec = tie.close (tie.spec returns)
