@@ -53,5 +53,6 @@ test:
 	@rt fmt --check
 	@python3 tests/readings.py
 	@python3 tests/reports.py
+	@python3 tests/tables.py
 	@tests/gate.sh
 	@tools/gate
