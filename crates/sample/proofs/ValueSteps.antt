@@ -173,6 +173,6 @@ module _ {lo hi : ℤ} {w : ℕ} (flow : Flow) (f : FlowFits lo hi w (wider 3 4 
   pub wish-marks : pattern lo hi (wishOf lo w (x .pattern)) ≡ configurationOf lo w (wider 3 4 flow) x .marks
   unfolding wishOf configurationOf
   wish-marks =
-      let all : take 4 (valuesOf w (lanes (x .pattern))) ≡ valuesOf w (lanes (x .pattern))
-      = take-all 4 (valuesOf w (lanes (x .pattern))) (omega (arith, length-values-of w (x .pattern))) in
+      let all : take 4 (valuesOf w (lanes w (x .pattern))) ≡ valuesOf w (lanes w (x .pattern))
+      = take-all 4 (valuesOf w (lanes w (x .pattern))) (omega (arith, length-values-of w (x .pattern))) in
       ap (λ (l : List ℕ). pattern lo hi (map (real lo) l)) (sym all) ∙ ap (pattern lo hi) (sym (spread-words f x k)) ∙ marks-stay f x k

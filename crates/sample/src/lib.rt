@@ -7,7 +7,8 @@ ghost use lib.ListN.{length, getD};
 ghost use Rattle.model.specs.Language.{Flow as FlowOf};
 ghost use Rattle.model.specs.Machine.{exitIf};
 ghost use Rattle.configuration.specs.inner.Place.{words};
-ghost use Rattle.configuration.specs.inner.Pattern.{Width, laneOf, valueOf};
+ghost use Rattle.outside_row.specs.Table.{IsTable};
+ghost use Rattle.configuration.specs.inner.Pattern.{Width};
 ghost use Rattle.configuration.specs.inner.Fits.{real};
 ghost use Rattle.sample_row.specs.inner.Moves.{Movable};
 ghost use Rattle.sample_row.specs.inner.Reading.{Ready};
@@ -44,27 +45,27 @@ pub struct SampleAnswer {
     pub lengths: [usize; Flow::TAPES],
 }
 
-// The value that a trial uses for the code of variable u.
-fn wish_at(word: u64, w: u64, lo: i32, u: u8) -> i32
-    requires { ⌜ Width w ⌝ }
+// The whole number that the value y of a search stands for.
+fn real(y: u64, lo: i32) -> i32
+    requires { ⌜ y < 65536 ⌝ }
     requires { ⌜ Low lo ⌝ }
-    ensures { λ r. ⌜ r ≡ real lo (valueOf w (laneOf word u)) ⌝ }
+    ensures { λ r. ⌜ r ≡ real lo y ⌝ }
 {
-    let c = pattern::lane(word, u);
-    let y = pattern::value(c, w);
     lo - 16 + y as i32
 }
 
 // Values of the pattern of a word.
-fn wish_of(word: u64, w: u64, lo: i32) -> [i32; Flow::VARIABLES]
+fn wish_of(table: &[u16], word: u64, w: u64, lo: i32) -> [i32; Flow::VARIABLES]
+    requires { ⌜ IsTable (now table) ⌝ }
     requires { ⌜ Width w ⌝ }
     requires { ⌜ Low lo ⌝ }
     ensures { λ r. ⌜ r ≡ wishOf lo w word ⌝ }
 {
-    let a = wish_at(word, w, lo, 0);
-    let b = wish_at(word, w, lo, 1);
-    let c = wish_at(word, w, lo, 2);
-    let d = wish_at(word, w, lo, 3);
+    let values = pattern::held(table, word, w);
+    let a = real(values[0], lo);
+    let b = real(values[1], lo);
+    let c = real(values[2], lo);
+    let d = real(values[3], lo);
     [a, b, c, d]
 }
 
@@ -129,7 +130,17 @@ fn takes_record(op: Op, next: Words) -> bool
 }
 
 // One step, of whatever kind, to the words `next`.
-fn step(row: &mut [i32], walk: Walk, op: Op, next: Words, w: u64, lo: i32, hi: i32) -> Walk
+fn step(
+    row: &mut [i32],
+    table: &[u16],
+    walk: Walk,
+    op: Op,
+    next: Words,
+    w: u64,
+    lo: i32,
+    hi: i32,
+) -> Walk
+    requires { ⌜ IsTable (now table) ⌝ }
     requires { ⌜ Width w ⌝ }
     requires { ⌜ Low lo ⌝ }
     requires { ⌜ OpFits op ⌝ }
@@ -137,7 +148,7 @@ fn step(row: &mut [i32], walk: Walk, op: Op, next: Words, w: u64, lo: i32, hi: i
     ensures { λ r. ⌜ (r ≡ walkTo lo hi w op next walk) × (now (row .exit) ≡ rowTo lo hi w op next walk (now (row .entry))) ⌝ }
 {
     if takes_record(op, next) {
-        let wish = wish_of(next.pattern, w, lo);
+        let wish = wish_of(table, next.pattern, w, lo);
         let a = op.tape as usize;
         let v = op.variable as usize;
         return sample_row::read_one(row, walk, lo, hi, wish, a, v);
@@ -195,6 +206,7 @@ fn sizes_of(
 // The steps of a way, from its start to its end.
 fn write_steps(
     cells: &[[u32; Cell::WORDS]],
+    table: &[u16],
     steps: usize,
     ops: [Op; Flow::MAX_INSTRUCTIONS],
     w: u64,
@@ -203,6 +215,7 @@ fn write_steps(
     sizes: [usize; Flow::TAPES],
     row: &mut [i32],
 ) -> Walk
+    requires { ⌜ IsTable (now table) ⌝ }
     requires { ⌜ ((flow : FlowOf) × CourseLeads (courseIn (now cells) steps ops w lo hi) flow) ⌝ }
     requires { ⌜ Roomy (courseIn (now cells) steps ops w lo hi) sizes (length (now row)) ⌝ }
     ensures { λ r. ⌜ ((flow : FlowOf)
@@ -218,7 +231,7 @@ fn write_steps(
         let op = ops[i];
         t += 1;
         let next = words_on(cells, t);
-        walk = step(row, walk, op, next, w, lo, hi);
+        walk = step(row, table, walk, op, next, w, lo, hi);
     }
     walk
 }
@@ -226,6 +239,7 @@ fn write_steps(
 // A sample for the exit, p if `exit`, of the instruction at the end of a way: its records in the row, and the lengths of its tapes.
 fn write_sample(
     cells: &[[u32; Cell::WORDS]],
+    table: &[u16],
     steps: usize,
     ops: [Op; Flow::MAX_INSTRUCTIONS],
     w: u64,
@@ -234,6 +248,7 @@ fn write_sample(
     exit: bool,
     row: &mut [i32],
 ) -> [usize; Flow::TAPES]
+    requires { ⌜ IsTable (now table) ⌝ }
     requires { ⌜ ((flow : FlowOf) × CourseLeads (courseIn (now cells) steps ops w lo hi) flow
         × Ends (courseIn (now cells) steps ops w lo hi) flow exit) ⌝ }
     requires { ⌜ suc steps ≤ length (now row) ⌝ }
@@ -246,7 +261,7 @@ fn write_sample(
     let i = search_table::index(search_table::place_on(cells, steps));
     let op = ops[i];
     let sizes = sizes_of(cells, steps, ops, op, exit);
-    let walk = write_steps(cells, steps, ops, w, lo, hi, sizes, row);
+    let walk = write_steps(cells, table, steps, ops, w, lo, hi, sizes, row);
     last_read(row, walk, op, exit, lo, hi);
     sizes
 }
@@ -267,6 +282,7 @@ pub fn without(end: SampleEnd) -> SampleAnswer
 // that are read on it into the row.
 fn sample_at(
     cells: &mut [[u32; Cell::WORDS]],
+    table: &[u16],
     n: usize,
     ops: [Op; Flow::MAX_INSTRUCTIONS],
     w: u64,
@@ -277,6 +293,7 @@ fn sample_at(
     exit: bool,
     row: &mut [i32],
 ) -> SampleAnswer
+    requires { ⌜ IsTable (now table) ⌝ }
     requires { ⌜ ((flow : FlowOf) × (i : ℕ)
         × Tabled flow (entriesOf (columnsOf (now cells))) n (length (now cells)) ops w lo hi i
         × NearestIs w (entriesOf (columnsOf (now cells))) n ops i (exitIf exit) (Found.At k)) ⌝ }
@@ -292,7 +309,7 @@ fn sample_at(
         return without(SampleEnd::Refused(Refusal::ShortRow));
     }
     cells::trace(cells, n, k);
-    let lengths = write_sample(cells, d, ops, w, lo, hi, exit, row);
+    let lengths = write_sample(cells, table, d, ops, w, lo, hi, exit, row);
     SampleAnswer {
         end: SampleEnd::Taken,
         distance: d + 1,
@@ -304,6 +321,7 @@ fn sample_at(
 // The sample for an exit of an instruction, p if `exit`, of a flow with so many tapes, from a finished table of n entries.
 pub fn sample_for(
     cells: &mut [[u32; Cell::WORDS]],
+    table: &[u16],
     n: usize,
     ops: [Op; Flow::MAX_INSTRUCTIONS],
     w: u64,
@@ -314,6 +332,7 @@ pub fn sample_for(
     exit: bool,
     row: &mut [i32],
 ) -> SampleAnswer
+    requires { ⌜ IsTable (now table) ⌝ }
     requires { ⌜ ((flow : FlowOf)
         × Tabled flow (entriesOf (columnsOf (now cells))) n (length (now cells)) ops w lo hi instruction) ⌝ }
     ensures { λ r. ⌜ ((flow : FlowOf)
@@ -323,9 +342,9 @@ pub fn sample_for(
 {
     let at = instruction - 1;
     let op = ops[at];
-    let found = search_table::nearest(cells, n, op, w, instruction, exit);
+    let found = search_table::nearest(cells, table, n, op, w, instruction, exit);
     match found {
         Found::Nothing => without(SampleEnd::Never),
-        Found::At(k) => sample_at(cells, n, ops, w, lo, hi, tapes, k, exit, row),
+        Found::At(k) => sample_at(cells, table, n, ops, w, lo, hi, tapes, k, exit, row),
     }
 }

@@ -2,6 +2,7 @@
 ghost use mathlib.Core.Path.{_≡_};
 ghost use Prim.Native.Nat.{_<_};
 ghost use lib.ListN.{getD};
+ghost use Rattle.outside_row.specs.Table.{IsTable};
 ghost use Rattle.configuration.specs.inner.Step.{startOf};
 ghost use Rattle.cells.specs.Cells.{mostCells, cellsOf};
 ghost use Rattle.cells.specs.inner.Columns.{distanceField, column, columnsOf};
@@ -25,12 +26,14 @@ pub enum Searched {
 // Visits what entry k leads to.
 fn expand(
     cells: &mut [[u32; Cell::WORDS]],
+    table: &[u16],
     count: usize,
     size: usize,
     k: usize,
     op: Op,
     w: u64,
 ) -> Grown
+    requires { ⌜ IsTable (now table) ⌝ }
     requires { ⌜ SearchReady w (columnsOf (now cells)) count size ⌝ }
     requires { ⌜ k < count ⌝ }
     requires { ⌜ FanFits w op (wordsAt (entriesOf (columnsOf (now cells))) k) ⌝ }
@@ -42,11 +45,11 @@ fn expand(
 {
     let x = search_table::words_at(cells, k);
     let d = cells::get(cells, k, Cell::DISTANCE) + 1;
-    let g = search_visit::fan(cells, count, size, d, k, op, w, x);
+    let g = search_visit::fan(cells, table, count, size, d, k, op, w, x);
     let Grown::To(n) = g else {
         return Grown::Full;
     };
-    let y = configuration::next(op, w, x);
+    let y = configuration::next(table, op, w, x);
     let s = search_visit::visit(cells, n, size, d, k, y);
     search_visit::after_visit(s)
 }
@@ -54,10 +57,12 @@ fn expand(
 // Expands entries until none is left or no cell is. Instruction number i is ops[i - 1]; a number that names none stops.
 fn walk(
     cells: &mut [[u32; Cell::WORDS]],
+    table: &[u16],
     size: usize,
     ops: [Op; Flow::MAX_INSTRUCTIONS],
     w: u64,
 ) -> Searched
+    requires { ⌜ IsTable (now table) ⌝ }
     requires { ⌜ ((s : Subject w ops) × Exploring (s .lo) w (s .flow)
         (columnsOf (now cells)) 1 size 0) ⌝ }
     ensures { λ r. ⌜ ((s : Subject w ops) → Exploring (s .lo) w (s .flow)
@@ -73,7 +78,7 @@ fn walk(
         if i < Flow::MAX_INSTRUCTIONS {
             op = ops[i];
         }
-        let g = expand(cells, n, size, k, op, w);
+        let g = expand(cells, table, n, size, k, op, w);
         let Grown::To(m) = g else {
             return Searched::Full;
         };
@@ -86,10 +91,12 @@ fn walk(
 // Everything that the flow reaches from its start. Where the cells are too few they are not zeroed here.
 pub fn search(
     cells: &mut [[u32; Cell::WORDS]],
+    table: &[u16],
     ops: [Op; Flow::MAX_INSTRUCTIONS],
     w: u64,
     start: Words,
 ) -> Searched
+    requires { ⌜ IsTable (now table) ⌝ }
     requires { ⌜ ((s : Subject w ops) × (start ≡ startOf (s .lo))) ⌝ }
     ensures { λ r. ⌜ ((s : Subject w ops) → start ≡ startOf (s .lo)
         → SearchedIs (s .lo) w (s .flow)
@@ -101,5 +108,5 @@ pub fn search(
         return Searched::Full;
     }
     cells::begin(cells, size, start.place, start.pattern);
-    walk(cells, size, ops, w)
+    walk(cells, table, size, ops, w)
 }

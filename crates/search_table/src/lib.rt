@@ -9,6 +9,7 @@ ghost use lib.ListN.{length, getD};
 ghost use lib.Dec.{eqb};
 ghost use Rattle.model.specs.Machine.{p-exit, m-exit, exitIf};
 ghost use Rattle.flow.specs.Limits.{maxInstructions};
+ghost use Rattle.outside_row.specs.Table.{IsTable};
 ghost use Rattle.configuration.specs.inner.Pattern.{Width};
 ghost use Rattle.configuration.specs.inner.Place.{atOf};
 ghost use Rattle.configuration.specs.inner.Step.{takesOf};
@@ -70,7 +71,8 @@ struct Numbers {
 }
 
 // The numbers listed for the exits of an instruction after its entry x, at distance d - 1. If both are listed before, x is not looked at.
-fn list_exits(p: u32, m: u32, op: Op, w: u64, x: Words, d: u32) -> Numbers
+fn list_exits(table: &[u16], p: u32, m: u32, op: Op, w: u64, x: Words, d: u32) -> Numbers
+    requires { ⌜ IsTable (now table) ⌝ }
     requires { ⌜ Width w ⌝ }
     ensures { λ r. ⌜ (r .p ≡ cond (takesOf w op x p-exit && eqb p 0) d p) × (r .m ≡ cond (takesOf w op x m-exit && eqb m 0) d m) ⌝ }
 {
@@ -79,7 +81,7 @@ fn list_exits(p: u32, m: u32, op: Op, w: u64, x: Words, d: u32) -> Numbers
             return Numbers { p, m };
         }
     }
-    let taken = configuration::exits_of(op, w, x);
+    let taken = configuration::exits_of(table, op, w, x);
     Numbers {
         p: kept(p, taken.p, d),
         m: kept(m, taken.m, d),
@@ -89,10 +91,12 @@ fn list_exits(p: u32, m: u32, op: Op, w: u64, x: Words, d: u32) -> Numbers
 // The distances of all exits.
 pub fn exits(
     cells: &[[u32; Cell::WORDS]],
+    table: &[u16],
     n: usize,
     ops: [Op; Flow::MAX_INSTRUCTIONS],
     w: u64,
 ) -> Distances
+    requires { ⌜ IsTable (now table) ⌝ }
     requires { ⌜ Width w ⌝ }
     requires { ⌜ Walkable (wordColumn placeField (now cells)) (wordColumn patternField (now cells)) (column distanceField (now cells)) n ⌝ }
     ensures { λ r. ⌜ ExitsOf w (wordColumn placeField (now (cells .entry))) (wordColumn patternField (now (cells .entry))) (column distanceField (now (cells .entry))) n ops r ⌝ }
@@ -105,7 +109,7 @@ pub fn exits(
         let i = index(x.place);
         let op = ops[i];
         let d = cells::get(cells, k, Cell::DISTANCE) + 1;
-        let listed = list_exits(p[i], m[i], op, w, x, d);
+        let listed = list_exits(table, p[i], m[i], op, w, x, d);
         p[i] = listed.p;
         m[i] = listed.m;
         k += 1;
@@ -114,14 +118,15 @@ pub fn exits(
 }
 
 // Whether words stand at the instruction, prepared as op, and can take the exit, p if `exit`.
-fn takes(x: Words, op: Op, w: u64, instruction: usize, exit: bool) -> bool
+fn takes(table: &[u16], x: Words, op: Op, w: u64, instruction: usize, exit: bool) -> bool
+    requires { ⌜ IsTable (now table) ⌝ }
     requires { ⌜ Width w ⌝ }
     ensures { λ r. ⌜ r ≡ (eqb (atOf (x .place)) instruction && takesOf w op x (exitIf exit)) ⌝ }
 {
     if place::at(x.place) != instruction {
         return false;
     }
-    let taken = configuration::exits_of(op, w, x);
+    let taken = configuration::exits_of(table, op, w, x);
     if exit {
         return taken.p;
     }
@@ -131,12 +136,14 @@ fn takes(x: Words, op: Op, w: u64, instruction: usize, exit: bool) -> bool
 // The first entry that stands at the instruction, prepared as op, and takes the exit, p if `exit`: none is nearer.
 pub fn nearest(
     cells: &[[u32; Cell::WORDS]],
+    table: &[u16],
     n: usize,
     op: Op,
     w: u64,
     instruction: usize,
     exit: bool,
 ) -> Found
+    requires { ⌜ IsTable (now table) ⌝ }
     requires { ⌜ Width w ⌝ }
     requires { ⌜ n ≤ length (now cells) ⌝ }
     ensures { λ r. ⌜ FirstIs (takesAt w (wordColumn placeField (now (cells .entry))) (wordColumn patternField (now (cells .entry))) op instruction (exitIf exit)) n r ⌝ }
@@ -144,7 +151,7 @@ pub fn nearest(
     let mut k = 0;
     while k < n {
         let x = words_at(cells, k);
-        if takes(x, op, w, instruction, exit) {
+        if takes(table, x, op, w, instruction, exit) {
             return Found::At(k);
         }
         k += 1;

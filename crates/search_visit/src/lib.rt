@@ -5,6 +5,7 @@
 // and a fan is walked once: a search is linear in the configurations.
 ghost use mathlib.Core.Path.{_≡_};
 ghost use Prim.Native.Nat.{_<_};
+ghost use Rattle.outside_row.specs.Table.{IsTable};
 ghost use Rattle.configuration.specs.inner.Pattern.{Width, low, assignOf};
 ghost use Rattle.cells.specs.inner.Columns.{columnsOf};
 ghost use Rattle.cells.specs.inner.Entries.{FilledIn};
@@ -71,6 +72,7 @@ pub fn after_visit(s: Visited) -> Grown
 // Visits the fan over v whose first member is `first`.
 fn members(
     cells: &mut [[u32; Cell::WORDS]],
+    table: &[u16],
     count: usize,
     size: usize,
     d: u32,
@@ -79,6 +81,7 @@ fn members(
     v: u8,
     first: Words,
 ) -> Grown
+    requires { ⌜ IsTable (now table) ⌝ }
     requires { ⌜ FilledIn (now cells) count size ⌝ }
     requires { ⌜ k < count ⌝ }
     requires { ⌜ Width w ⌝ }
@@ -86,11 +89,12 @@ fn members(
     ensures { λ r. ⌜ MembersIn w v first (now (cells .entry)) (now (cells .exit)) count size d k r ⌝ }
     ensures { λ r. ⌜ FreshIn (now (cells .entry)) (now (cells .exit)) count r ⌝ }
 {
+    let values = pattern::held(table, first.pattern, w);
     let last = w + Words::LAST_TRIAL;
     let mut n = count;
     let mut y = Words::FIRST_TRIAL;
     while y <= last {
-        let q = pattern::fan_at(first.pattern, w, v, y);
+        let q = pattern::fan_at(table, first.pattern, values, w, v, y);
         let member = Words {
             place: first.place,
             pattern: q,
@@ -133,6 +137,7 @@ fn opens(op: Op, x: Words) -> bool
 // members are stored: if one of them finds no cell, the search is over.
 pub fn fan(
     cells: &mut [[u32; Cell::WORDS]],
+    table: &[u16],
     count: usize,
     size: usize,
     d: u32,
@@ -141,6 +146,7 @@ pub fn fan(
     w: u64,
     x: Words,
 ) -> Grown
+    requires { ⌜ IsTable (now table) ⌝ }
     requires { ⌜ SearchReady w (columnsOf (now cells)) count size ⌝ }
     requires { ⌜ k < count ⌝ }
     requires { ⌜ FanFits w op x ⌝ }
@@ -149,7 +155,7 @@ pub fn fan(
     if !opens(op, x) {
         return Grown::To(count);
     }
-    let first = configuration::take(op, w, x, Words::LOW);
+    let first = configuration::take(table, op, w, x, Words::LOW);
     let s = visit(cells, count, size, d, k, first);
     let Visited::At(i, n) = s else {
         return Grown::Full;
@@ -158,5 +164,5 @@ pub fn fan(
         return Grown::To(n);
     }
     cells::mark(cells, i, op.variable as usize);
-    members(cells, n, size, d, k, w, op.variable, first)
+    members(cells, table, n, size, d, k, w, op.variable, first)
 }

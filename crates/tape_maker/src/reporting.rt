@@ -102,11 +102,12 @@ fn report_flow(flow: Flow, cells: &mut [[u32; Cell::WORDS]]) -> ReportAnswer
     let ops = plan.ops;
     let w = plan.w;
     let start = plan.start;
-    let found = search::search(cells, ops, w, start);
+    let table = outside_row::make_table();
+    let found = search::search(cells, &table, ops, w, start);
     match found {
         Searched::Full => report_refused(Refusal::TooFewCells),
         Searched::Done(n) => {
-            let d = search_table::exits(cells, n, ops, w);
+            let d = search_table::exits(cells, &table, n, ops, w);
             let instructions = flow.instructions;
             let count = flow.count;
             given(instructions, count, n, d)

@@ -68,13 +68,15 @@ fn sample_flow(
     let ops = plan.ops;
     let w = plan.w;
     let start = plan.start;
-    let found = search::search(cells, ops, w, start);
+    let table = outside_row::make_table();
+    let found = search::search(cells, &table, ops, w, start);
     match found {
         Searched::Full => sample::without(SampleEnd::Refused(Refusal::TooFewCells)),
         Searched::Done(n) => {
             let tapes = flow.tapes as usize;
             sample::sample_for(
                 cells,
+                &table,
                 n,
                 ops,
                 w,

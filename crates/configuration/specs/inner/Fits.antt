@@ -8,7 +8,7 @@ use Rattle.model.specs.inner.Integers.{up, dn, Inside}
 use Rattle.model.specs.Language.{Flow}
 use Rattle.model.specs.inner.View.{viewAt, LegalFlow, Targeted}
 use Rattle.flow.specs.Limits.{maxTapes, maxVariables}
-use Rattle.configuration.specs.inner.Pattern.{Width, patternWords, lanes, Valid}
+use Rattle.configuration.specs.inner.Pattern.{Width, lanes, Valid}
 use Rattle.configuration.specs.inner.Place.{endsOf}
 use Rattle.configuration.specs.inner.Op.{offset}
 use Rattle.configuration.specs.declared.Words.{Words}
@@ -39,7 +39,6 @@ pub record FlowFits (lo hi : ℤ) (w : ℕ) (flow : Flow) : Type 0 where
 -- holds the code of 0, and a bit that it does not name is 0
 pub record ProperWords (lo : ℤ) (w : ℕ) (flow : Flow) (x : Words) : Type 0 where
   pub again : Valid w (x .pattern)
-  pub idle : drop (flow .variables) (lanes (x .pattern)) ≡ replicate (maxVariables - flow .variables) (offset (pos 0) lo)
+  pub idle : drop (flow .variables) (lanes w (x .pattern)) ≡ replicate (maxVariables - flow .variables) (offset (pos 0) lo)
   pub unmet : drop (flow .tapes) (endsOf (x .place)) ≡ replicate (maxTapes - flow .tapes) false
   pub place-fits : x .place < 1024
-  pub pattern-fits : x .pattern < patternWords

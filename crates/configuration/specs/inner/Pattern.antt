@@ -1,15 +1,18 @@
--- The pattern word (document 01, "Distances and configurations"): a code of 16 bits for each of four variables. lo is C1, and w says how many
--- whole numbers there are from C1 to C2. A code below w is a value, counted from lo; then come ranks 1 to 4 above, then ranks 1 to 4 below.
+-- The pattern word (document 01, "Distances and configurations"; document 02, T-06). lo is C1, and w says how many whole numbers there are from
+-- C1 to C2. A pattern is a code for each of four variables: a code below w is a value, counted from lo; then come ranks 1 to 4 above, then
+-- ranks 1 to 4 below. A word stores the codes as four digits of 16 bits: a code below w as it is; of those outside the first as w and the
+-- index of their ranks in the table of outside patterns for so many variables, the others as w.
 --
 -- A search tries values. In it a value is a natural number: `low` stands for C1, `high w` for C2.
-use mathlib.Core.Bool.{Bool, false, not, cond, _&&_, _||_}
+use mathlib.Core.Bool.{Bool, true, false, not, cond, _&&_, _||_}
 use mathlib.Core.List.{List, [], _∷_, map}
 use Prim.Native.Nat.{ℕ, zero, suc, _+_, _*_, _-_, _<_, _≤_}
 use lib.IntN.{ℤ, pos, _+ℤ_}
-use lib.ListN.{getD, set}
+use lib.ListN.{length, getD, set, drop}
 use lib.Dec.{leb, ltb, eqb}
 use Rattle.model.specs.Pattern.{Mark, above, inside, below}
 use Rattle.model.specs.inner.Marks.{lessMark}
+use Rattle.outside_row.specs.Table.{entriesFor, placeIn}
 use Rattle.flow.specs.Limits.{maxVariables}
 use Rattle.configuration.specs.inner.Digits.{digits, undigits}
 use mathlib.Core.Path.{_≡_}
@@ -18,7 +21,7 @@ use mathlib.Core.Path.{_≡_}
 abbrev pub maxWidth : ℕ
 maxWidth = 19999
 
--- there are at least one and at most so many whole numbers from C1 to C2, so that every code fits its lane
+-- there are at least one and at most so many whole numbers from C1 to C2, so that every digit fits its lane
 pub record Width (w : ℕ) : Type 0 where
   pub some : 0 < w
   pub few : w ≤ maxWidth
@@ -30,9 +33,30 @@ lane = 65536
 abbrev pub patternWords : ℕ
 patternWords = lane * (lane * (lane * lane))
 
+-- by how much the codes, or the digits, of the variables outside exceed w: a code by the number of its rank, the first digit by the index
+unfoldable pub excess : (w : ℕ) → List ℕ → List ℕ
+excess w [] = []
+excess w (c ∷ cs) = elim (ltb c w) [ true ↦ excess w cs | false ↦ (c - w) ∷ excess w cs ]
+
+-- the codes stored as digits; n is the digit of the first variable outside
+unfoldable pub storeFrom : (w n : ℕ) → List ℕ → List ℕ
+storeFrom w n [] = []
+storeFrom w n (c ∷ cs) = cond (ltb c w) c n ∷ storeFrom w (cond (ltb c w) n w) cs
+
+unfoldable pub storeOf : (w : ℕ) → List ℕ → List ℕ
+storeOf w codes = storeFrom w (w + placeIn (entriesFor (length (excess w codes))) (excess w codes)) codes
+
+-- the codes that digits store; an entry's ranks are taken one by one
+unfoldable pub weave : (w : ℕ) → (digits entry : List ℕ) → List ℕ
+weave w [] l = []
+weave w (d ∷ ds) l = cond (ltb d w) d (w + getD l 0 0) ∷ weave w ds (cond (ltb d w) l (drop 1 l))
+
+unfoldable pub recallOf : (w : ℕ) → List ℕ → List ℕ
+recallOf w ds = weave w ds (getD (entriesFor (length (excess w ds))) (getD (excess w ds) 0 0) [])
+
 -- the codes of a pattern word
-abbrev pub lanes : ℕ → List ℕ
-lanes pattern = digits lane maxVariables pattern
+abbrev pub lanes : (w pattern : ℕ) → List ℕ
+lanes w pattern = recallOf w (digits lane maxVariables pattern)
 
 -- what a code says of its variable
 unfoldable pub markOf : (lo : ℤ) (w c : ℕ) → Mark
@@ -71,11 +95,17 @@ laneCode w values x = cond (ltb (high w) x) (w + differentWithin (suc (high w)) 
 unfoldable pub codesOf : (w : ℕ) → List ℕ → List ℕ
 codesOf w values = map (laneCode w values) values
 
--- ---- what a search does with a pattern word
--- the code of variable u, counted from 0
-unfoldable pub laneOf : (pattern u : ℕ) → ℕ
-laneOf pattern u = getD (lanes pattern) u 0
+-- codes that are those of four values
+pub record AreCodes (w : ℕ) (codes : List ℕ) : Type 0 where
+  pub values : List ℕ
+  pub four : length values ≡ maxVariables
+  pub is : codes ≡ codesOf w values
 
+-- the pattern word of values
+unfoldable pub wordOf : (w : ℕ) → List ℕ → ℕ
+wordOf w values = undigits lane (storeOf w (codesOf w values))
+
+-- ---- what a search does with a pattern word
 -- the position number of a value: 0 below C1, 1 from C1 to C2, 2 above C2
 unfoldable pub positionOf : Mark → ℕ
 positionOf (below k) = 0
@@ -89,13 +119,13 @@ lessOf w c d = lessMark (markOf (pos 0) w c) (markOf (pos 0) w d)
 
 -- the word when variable v gets the value y
 unfoldable pub assignOf : (w pattern v y : ℕ) → ℕ
-assignOf w pattern v y = undigits lane (codesOf w (set (valuesOf w (lanes pattern)) v y))
+assignOf w pattern v y = wordOf w (set (valuesOf w (lanes w pattern)) v y)
 
 -- 1 in lane v
 unfoldable pub unitOf : ℕ → ℕ
 unitOf zero = 1
 unitOf (suc v) = lane * unitOf v
 
--- the codes of a pattern word are those of some values: spread out, they are the same codes again
+-- a pattern word is that of some values: the values of its codes have the same word again
 abbrev pub Valid : (w pattern : ℕ) → Type 0
-Valid w pattern = codesOf w (valuesOf w (lanes pattern)) ≡ lanes pattern
+Valid w pattern = wordOf w (valuesOf w (lanes w pattern)) ≡ pattern

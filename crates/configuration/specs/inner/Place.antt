@@ -37,5 +37,5 @@ configurationOf lo w flow x =
     record {
       next = atOf (x .place);
       ended = take (flow .tapes) (endsOf (x .place));
-      marks = take (flow .variables) (map (markOf lo w) (lanes (x .pattern)));
+      marks = take (flow .variables) (map (markOf lo w) (lanes w (x .pattern)));
     }

@@ -1,6 +1,7 @@
 -- One step on words: what a prepared instruction does to a configuration, and the exit that it takes.
 use mathlib.Core.Bool.{Bool, true, false, not, cond}
 use mathlib.Core.Option.{Option, none, some}
+use mathlib.Core.List.{List}
 use Prim.Native.Nat.{ℕ}
 use lib.IntN.{ℤ, pos}
 use lib.ListN.{getD, replicate}
@@ -8,7 +9,7 @@ use lib.Dec.{ltb}
 use Rattle.model.specs.Machine.{Exit, p-exit, m-exit, exitIf}
 use Rattle.flow.specs.Limits.{maxVariables}
 use Rattle.configuration.specs.inner.Digits.{undigits}
-use Rattle.configuration.specs.inner.Pattern.{lane, laneOf, valueOf, lessOf, assignOf}
+use Rattle.configuration.specs.inner.Pattern.{lane, lanes, valueOf, lessOf, assignOf}
 use Rattle.configuration.specs.inner.Place.{words, endsOf, goOf, finishOf}
 use Rattle.configuration.specs.inner.Op.{offset}
 use Rattle.configuration.specs.declared.Words.{Words}
@@ -16,12 +17,14 @@ use Rattle.configuration.specs.declared.Op.{Op}
 use Rattle.configuration.specs.declared.Action.{Action}
 use Rattle.configuration.specs.declared.Action.the-variants.{Read, Assign, Test, Go, Stop}
 
--- the code of term u, and whether the comparison holds
-unfoldable pub termOf : Op → Words → ℕ → ℕ
-termOf op x u = cond (ltb u maxVariables) (laneOf (x .pattern) u) (op .constant)
+-- the code of term u, if the variables have these codes
+unfoldable pub termOf : Op → (codes : List ℕ) → ℕ → ℕ
+termOf op codes u = cond (ltb u maxVariables) (getD codes u 0) (op .constant)
+
+-- whether the comparison holds
 
 unfoldable pub holdsOf : (w : ℕ) → Op → Words → Bool
-holdsOf w op x = lessOf w (termOf op x (op .left)) (termOf op x (op .right))
+holdsOf w op x = lessOf w (termOf op (lanes w (x .pattern)) (op .left)) (termOf op (lanes w (x .pattern)) (op .right))
 
 -- whether tape a has met its end
 unfoldable pub endedOf : (place a : ℕ) → Bool
@@ -38,7 +41,7 @@ takeOf w op x y = words (goOf (x .place) (op .p)) (assignOf w (x .pattern) (op .
 -- the step that reads no record, by the action: a read meets its tape's end
 abbrev pub nextBy : Action → (w : ℕ) → Op → Words → Words
 nextBy Read w op x = words (finishOf (x .place) (op .tape) (op .m)) (x .pattern)
-nextBy Assign w op x = takeOf w op x (valueOf w (termOf op x (op .left)))
+nextBy Assign w op x = takeOf w op x (valueOf w (termOf op (lanes w (x .pattern)) (op .left)))
 nextBy Test w op x = goOn x (cond (holdsOf w op x) (op .p) (op .m))
 nextBy Go w op x = goOn x (op .p)
 nextBy Stop w op x = x

@@ -19,7 +19,7 @@ abbrev read : tie.After-trace → tie.After-wide
 read c = c .before .before .before
 
 abbrev start : tie.After-wide → tie.Start
-start c = c .before .before .before
+start c = c .before .before .before .before
 
 far-is : (c : tie.After-wide) → c .wide .result ≡ getD (column distanceField (now (start c .args .cells))) (start c .args .k) 0
 far-is c = c .wide .ensures ∙ c .before .get .ensures
@@ -27,9 +27,9 @@ far-is c = c .wide .ensures ∙ c .before .get .ensures
 -- ---- the needs
 get-requires : tie.Need-get-requires
 get-requires c κs =
-    let b = c .before in
-    let l = nearest-below (b .pre .2) (b .args .exit) (b .args .k) (b .pre .3) in
-    (omega (arith, l, b .pre .2 .walkable .distance-room, length-column distanceField (now (b .args .cells))), omega arith)
+    let b = c .before .before in
+    let l = nearest-below (b .pre .1 .2) (b .args .exit) (b .args .k) (b .pre .1 .3) in
+    (omega (arith, l, b .pre .1 .2 .walkable .distance-room, length-column distanceField (now (b .args .cells))), omega arith)
 
 returns : tie.Need-returns
 returns c = λ flow i t h.
@@ -40,8 +40,8 @@ returns c = λ flow i t h.
 trace-requires : tie.Need-trace-requires
 trace-requires c κs =
     let b = start (c .before .before) in
-    let t = b .pre .2 in
-    (t .parents, (nearest-below t (b .args .exit) (b .args .k) (b .pre .3), nearest-room t (b .args .exit) (b .args .k) (b .pre .3)))
+    let t = b .pre .1 .2 in
+    (t .parents, (nearest-below t (b .args .exit) (b .args .k) (b .pre .1 .3), nearest-room t (b .args .exit) (b .args .k) (b .pre .1 .3)))
 
 write-sample-requires : tie.Need-write-sample-requires
 write-sample-requires c κs =
@@ -49,21 +49,24 @@ write-sample-requires c κs =
     let b = start (read way) in
     let a = b .args in
     let only = way .trace .ensures .1 in
-    let t = tabled-after _ _ only (tabled-at (b .pre .2) (toZ-ofZ (b .fits .lo)) (toZ-ofZ (b .fits .hi))) in
-    let h = nearest-after _ _ only (a .w) (a .n) (a .ops) (b .pre .1) (a .exit) (a .k) (b .pre .3) in
+    let t = tabled-after _ _ only (tabled-at (b .pre .1 .2) (toZ-ofZ (b .fits .lo)) (toZ-ofZ (b .fits .hi))) in
+    let h = nearest-after _ _ only (a .w) (a .n) (a .ops) (b .pre .1 .1) (a .exit) (a .k) (b .pre .1 .3) in
     let far = far-after _ _ only (a .k) (far-is (read way)) in
     let long = way-long _ _ only (way .trace .kept .0) in
     let traced = traced-after _ _ only _ _ _ (way .trace .ensures .0) in (
-      (b .pre .0, way-leads t (a .exit) (a .k) h far long traced, way-ends-there t (a .exit) (a .k) h far long traced),
-      omega arith,
+      b .pre .0,
+      (
+        (b .pre .1 .0, way-leads t (a .exit) (a .k) h far long traced, way-ends-there t (a .exit) (a .k) h far long traced),
+        omega arith,
+      ),
     )
 
-add-distance : tie.Need-add-t16
+add-distance : tie.Need-add-t17
 add-distance c =
     let w = read (way-of (c .before .before)) in
     let b = start w in
-    let t = b .pre .2 in
-    let l = nearest-below t (b .args .exit) (b .args .k) (b .pre .3) in
+    let t = b .pre .1 .2 in
+    let l = nearest-below t (b .args .exit) (b .args .k) (b .pre .1 .3) in
     let far = far-is w in
     let near = t .walkable .near (b .args .k) l in
     let few = t .walkable .few in

@@ -18,26 +18,26 @@ abbrev looked : tie.After-found → tie.After-nearest
 looked c = c .before .before
 
 abbrev start : tie.After-nearest → tie.Start
-start c = c .before .before .before
+start c = c .before .before .before .before
 
 abbrev table : tie.Start → Entries
 table b = entriesOf (columnsOf (now (b .args .cells)))
 
 -- ---- the needs
 sub-at : tie.Need-sub-at
-sub-at c = let l = tabled-first (c .pre .1) in search needs
+sub-at c = let l = tabled-first (c .before .pre .1 .1) in search needs
 
 mul-op : tie.Need-mul-op
-mul-op c = let t = c .pre .1 in let l = tabled-first t in let m = tabled-last t in search needs
+mul-op c = let t = c .before .pre .1 .1 in let l = tabled-first t in let m = tabled-last t in search needs
 
 array-copy-out-op : tie.Need-array-copy-out-op
-array-copy-out-op c = let t = c .pre .1 in let l = tabled-first t in let m = tabled-last t in search needs
+array-copy-out-op c = let t = c .before .pre .1 .1 in let l = tabled-first t in let m = tabled-last t in search needs
 
 nearest-requires : tie.Need-nearest-requires
 nearest-requires c κs =
-    let b = c .before .before in
-    let t = b .pre .1 in
-    (tabled-wide t, omega (arith, t .walkable .place-room, length-word-column placeField (now (b .args .cells))))
+    let b = c .before .before .before in
+    let t = b .pre .1 .1 in
+    (b .pre .0, (tabled-wide t, omega (arith, t .walkable .place-room, length-word-column placeField (now (b .args .cells)))))
 
 sample-at-requires : tie.Need-sample-at-requires
 sample-at-requires c κs =
@@ -46,9 +46,12 @@ sample-at-requires c κs =
     let b = start n in
     let a = b .args in (
       b .pre .0,
-      a .instruction,
-      tabled-at (b .pre .1) (toZ-ofZ (b .fits .lo)) (toZ-ofZ (b .fits .hi)),
-      nearest-is (a .w) (table b) (a .n) (a .t3) (a .instruction) (a .exit) (f .found .given .1) (n .nearest .ensures),
+      (
+        b .pre .1 .0,
+        a .instruction,
+        tabled-at (b .pre .1 .1) (toZ-ofZ (b .fits .lo)) (toZ-ofZ (b .fits .hi)),
+        nearest-is (a .w) (table b) (a .n) (a .t4) (a .instruction) (a .exit) (f .found .given .1) (n .nearest .ensures),
+      ),
     )
 
 returns : tie.Need-returns
@@ -57,7 +60,7 @@ returns c = λ flow t.
     let b = start n in
     let a = b .args in
     nothing-picked t (a .exit) (a .tapes) (now (a .row)) _
-    (nearest-is (a .w) (table b) (a .n) (a .t3) (a .instruction) (a .exit) (c .before .enum-told .given .1) (n .nearest .ensures)) (c .without .ensures)
+    (nearest-is (a .w) (table b) (a .n) (a .t4) (a .instruction) (a .exit) (c .before .enum-told .given .1) (n .nearest .ensures)) (c .without .ensures)
 
 returns-2 : tie.Need-returns-2
 returns-2 c = λ flow t.
@@ -67,7 +70,7 @@ returns-2 c = λ flow t.
     let b = start n in
     let a = b .args in
     s .sample-at .ensures flow (a .instruction) (tabled-at t (toZ-ofZ (b .fits .lo)) (toZ-ofZ (b .fits .hi)))
-    (nearest-is (a .w) (table b) (a .n) (a .t3) (a .instruction) (a .exit) (f .found .given .1) (n .nearest .ensures))
+    (nearest-is (a .w) (table b) (a .n) (a .t4) (a .instruction) (a .exit) (f .found .given .1) (n .nearest .ensures))
 
 pub sample-for-spec : {M : Type 1} → statement M
 sample-for-spec =

@@ -24,12 +24,12 @@ abbrev sized : tie.After-write-steps → tie.After-sizes-of
 sized c = c .before .before
 
 abbrev start : tie.After-op → tie.Start
-start c = c .before .before .before
+start c = c .before .before .before .before
 
 -- the course, which a callee has with lo and hi as they are passed on
 module _ (b : tie.Start) where
   abbrev along : (lo hi : ℤ) → Course
-  along = courseIn (now (b .args .cells)) (b .args .steps) (b .args .t3) (b .args .w)
+  along = courseIn (now (b .args .cells)) (b .args .steps) (b .args .t4) (b .args .w)
 
   abbrev way : Course
   way = along (b .args .lo) (b .args .hi)
@@ -38,24 +38,24 @@ module _ (b : tie.Start) where
   same = λ i. along (toZ-ofZ (b .fits .lo) i) (toZ-ofZ (b .fits .hi) i)
 
 -- the instruction at the end
-op-is : (c : tie.After-op) → let b = start c in getD (b .args .t3) (c .before .index .result) blank ≡ opAlong (way b) (b .args .steps)
-op-is c = op-by-place (start c .pre .0 .1) _ _ (c .before .before .place-on .ensures) (c .before .index .ensures .0)
+op-is : (c : tie.After-op) → let b = start c in getD (b .args .t4) (c .before .index .result) blank ≡ opAlong (way b) (b .args .steps)
+op-is c = op-by-place (start c .pre .1 .0 .1) _ _ (c .before .before .place-on .ensures) (c .before .index .ensures .0)
 
 -- what the steps follow
 follows : (c : tie.After-write-steps) → let s = sized c in
     let b = start (s .before) in
     (flow : Flow) → CourseLeads (way b) flow
-    → Following (way b) flow (s .sizes-of .result) (now (b .args .row)) (b .args .steps) (c .write-steps .result) (c .write-steps .last .1 .1 .1 .1 .1 .1 .1 .0)
+    → Following (way b) flow (s .sizes-of .result) (now (b .args .row)) (b .args .steps) (c .write-steps .result) (c .write-steps .last .1 .1 .1 .1 .1 .1 .1 .1 .0)
 follows c flow q = let e = same (start (sized c .before)) in rw e at (c .write-steps .ensures flow (rw e q))
 
 -- ---- the needs
 place-on-requires : tie.Need-place-on-requires
-place-on-requires c κs = let p = c .pre .0 .1 .passable in on-way _ p (c .args .steps) (omega arith)
+place-on-requires c κs = let b = c .before in on-way _ (b .pre .1 .0 .1 .passable) (b .args .steps) (omega arith)
 
 index-requires : tie.Need-index-requires
 index-requires c κs =
-    let b = c .before in
-    subst Stands (sym (c .place-on .ensures)) (b .pre .0 .1 .passable .stands (b .args .steps) (omega arith))
+    let b = c .before .before in
+    subst Stands (sym (c .place-on .ensures)) (b .pre .1 .0 .1 .passable .stands (b .args .steps) (omega arith))
 
 array-copy-out-op : tie.Need-array-copy-out-op
 array-copy-out-op c = c .index .ensures .1
@@ -64,9 +64,12 @@ write-steps-requires : tie.Need-write-steps-requires
 write-steps-requires c κs =
     let s = c .before in
     let b = start (s .before) in
-    let q = b .pre .0 .1 in (
-      (b .pre .0 .0, rw (same b) q),
-      rw (same b) (end-roomy q (b .args .exit) (op-is (s .before)) (s .sizes-of .ensures) (length (now (b .args .row))) (b .pre .1)),
+    let q = b .pre .1 .0 .1 in (
+      b .pre .0,
+      (
+        (b .pre .1 .0 .0, rw (same b) q),
+        rw (same b) (end-roomy q (b .args .exit) (op-is (s .before)) (s .sizes-of .ensures) (length (now (b .args .row))) (b .pre .1 .1)),
+      ),
     )
 
 last-read-requires : tie.Need-last-read-requires
@@ -74,8 +77,8 @@ last-read-requires c κs =
     let w = stepped c in
     let s = sized w in
     let b = start (s .before) in
-    let q = b .pre .0 .1 in
-    rw (toZ-ofZ (b .fits .lo), toZ-ofZ (b .fits .hi)) (end-asks q (b .args .exit) (op-is (s .before)) (s .sizes-of .ensures) (b .pre .0 .2) (follows w _ q) (b .pre .1))
+    let q = b .pre .1 .0 .1 in
+    rw (toZ-ofZ (b .fits .lo), toZ-ofZ (b .fits .hi)) (end-asks q (b .args .exit) (op-is (s .before)) (s .sizes-of .ensures) (b .pre .1 .0 .2) (follows w _ q) (b .pre .1 .1))
 
 returns : tie.Need-returns
 returns c =
@@ -84,7 +87,7 @@ returns c =
     let s = sized w in
     let b = start (s .before) in
     let e = rw (toZ-ofZ (b .fits .lo), toZ-ofZ (b .fits .hi)) at (read .last-read .ensures) in
-    λ flow q d. end-written q (b .args .exit) (op-is (s .before)) (s .sizes-of .ensures) d (follows w flow q) (b .pre .1) e
+    λ flow q d. end-written q (b .args .exit) (op-is (s .before)) (s .sizes-of .ensures) d (follows w flow q) (b .pre .1 .1) e
 
 pub write-sample-spec : {M : Type 1} → statement M
 write-sample-spec =

@@ -22,14 +22,14 @@ use Rattle.sample.proofs.write_steps.Statement.{statement}
 use Rattle.sample.proofs.write_steps.Tie as tie
 
 abbrev Inv-loop : tie.InvT-loop
-Inv-loop cells steps w lo hi row₀ ops walk₀ t₀ row walk t =
+Inv-loop cells table steps w lo hi row₀ ops walk₀ t₀ row walk t =
     (t ≤ steps) × (length row ≡ length row₀)
     × ((flow : Flow) (sizes : List ℕ) → CourseLeads (courseIn cells steps ops w (toZ w32 lo) (toZ w32 hi)) flow
     → Roomy (courseIn cells steps ops w (toZ w32 lo) (toZ w32 hi)) sizes (length row₀) → walk₀ ≡ firstWalk sizes
     → Following (courseIn cells steps ops w (toZ w32 lo) (toZ w32 hi)) flow sizes row₀ t walk row)
 
 abbrev μ-loop : tie.MeasureT-loop
-μ-loop cells steps w lo hi row₀ ops walk₀ t₀ row walk t = steps - t
+μ-loop cells table steps w lo hi row₀ ops walk₀ t₀ row walk t = steps - t
 
 -- ---- the way back: the instruction picked, the turn of the loop, and the start
 abbrev picked : tie.After-step-arg Inv-loop μ-loop → tie.After-op Inv-loop μ-loop
@@ -39,12 +39,12 @@ abbrev turn : tie.After-op Inv-loop μ-loop → tie.In-loop Inv-loop μ-loop
 turn c = c .before .before .before
 
 abbrev start : tie.At-loop Inv-loop μ-loop → tie.Start Inv-loop μ-loop
-start c = c .before .before
+start c = c .before .before .before
 
 -- the course, with lo and hi as the loop has them
 module _ (b : tie.Start Inv-loop μ-loop) where
   abbrev along : (lo hi : ℤ) → Course
-  along = courseIn (now (b .args .cells)) (b .args .steps) (b .args .t3) (b .args .w)
+  along = courseIn (now (b .args .cells)) (b .args .steps) (b .args .t4) (b .args .w)
 
   abbrev way : Course
   way = along (numbers.back (b .args .lo)) (numbers.back (b .args .hi))
@@ -52,18 +52,18 @@ module _ (b : tie.Start Inv-loop μ-loop) where
   same : way ≡ along (b .args .lo) (b .args .hi)
   same = λ i. along (toZ-ofZ (b .fits .lo) i) (toZ-ofZ (b .fits .hi) i)
 
-  leads : CourseLeads way (b .pre .0 .0)
-  leads = rw same (b .pre .0 .1)
+  leads : CourseLeads way (b .pre .1 .0 .0)
+  leads = rw same (b .pre .1 .0 .1)
 
   roomy : Roomy way (b .args .sizes) (length (now (b .args .row)))
-  roomy = rw same (b .pre .1)
+  roomy = rw same (b .pre .1 .1)
 
 -- what the walk follows when a turn begins, and the instruction of the turn
 module _ (c : tie.After-op Inv-loop μ-loop) where
   abbrev at-turn : tie.At-loop Inv-loop μ-loop
   at-turn = turn c .before
 
-  follows : let b = start at-turn in Following (way b) (b .pre .0 .0) (b .args .sizes) (now (b .args .row)) (at-turn .loop .t) (at-turn .loop .walk) (at-turn .loop .row)
+  follows : let b = start at-turn in Following (way b) (b .pre .1 .0 .0) (b .args .sizes) (now (b .args .row)) (at-turn .loop .t) (at-turn .loop .walk) (at-turn .loop .row)
   follows = let b = start at-turn in at-turn .loop .inv .2 _ _ (leads b) (roomy b) (at-turn .before .first-walk .ensures)
 
   op-is : let k = way (start at-turn) in getD (k .ops) (c .before .index .result) blank ≡ opAlong k (at-turn .loop .t)
@@ -71,23 +71,23 @@ module _ (c : tie.After-op Inv-loop μ-loop) where
 
 -- ---- the needs
 first-walk-requires : tie.Need-first-walk-requires Inv-loop μ-loop
-first-walk-requires c κs = let few = c .pre .0 .1 .passable .few in omega (arith, c .pre .1 .few)
+first-walk-requires c κs = let b = c .before in let few = b .pre .1 .0 .1 .passable .few in omega (arith, b .pre .1 .1 .few)
 
 loop-holds : tie.Need-loop-holds Inv-loop μ-loop
 loop-holds c =
-    let a = c .before .args in
+    let a = c .before .before .args in
     (omega arith, refl, λ flow sizes q roomy e. following-first q roomy (now (a .row)) (roomy .long) e)
 
 words-on-requires : tie.Need-words-on-requires Inv-loop μ-loop
 words-on-requires c κs =
     let b = start (c .before) in
-    on-way (now (b .args .cells)) (b .pre .0 .1 .passable) (c .before .loop .t) (omega (arith, c .loop-test .taken))
+    on-way (now (b .args .cells)) (b .pre .1 .0 .1 .passable) (c .before .loop .t) (omega (arith, c .loop-test .taken))
 
 index-requires : tie.Need-index-requires Inv-loop μ-loop
 index-requires c κs =
     let at = c .before .before in
     subst (λ (x : Words). Stands (x .place)) (sym (c .words-on .ensures))
-    (start at .pre .0 .1 .passable .stands (at .loop .t) (omega (arith, c .before .loop-test .taken)))
+    (start at .pre .1 .0 .1 .passable .stands (at .loop .t) (omega (arith, c .before .loop-test .taken)))
 
 mul-op : tie.Need-mul-op Inv-loop μ-loop
 mul-op c = omega (arith, c .index .ensures .1)
@@ -96,18 +96,18 @@ array-copy-out-op : tie.Need-array-copy-out-op Inv-loop μ-loop
 array-copy-out-op c = c .index .ensures .1
 
 add-t : tie.Need-add-t Inv-loop μ-loop
-add-t c = omega (arith, turn c .loop-test .taken, start (at-turn c) .pre .0 .1 .passable .few)
+add-t c = omega (arith, turn c .loop-test .taken, start (at-turn c) .pre .1 .0 .1 .passable .few)
 
 words-on-requires-2 : tie.Need-words-on-requires-2 Inv-loop μ-loop
 words-on-requires-2 c κs =
     let b = start (at-turn c) in
-    on-way (now (b .args .cells)) (b .pre .0 .1 .passable) (at-turn c .loop .t + 1) (omega (arith, turn c .loop-test .taken))
+    on-way (now (b .args .cells)) (b .pre .1 .0 .1 .passable) (at-turn c .loop .t + 1) (omega (arith, turn c .loop-test .taken))
 
 step-requires : tie.Need-step-requires Inv-loop μ-loop
 step-requires c κs =
     let p = picked c in
     let b = start (at-turn p) in
-    loop-asks (leads b) (roomy b) (turn p .loop-test .taken) (follows p) (op-is p) (c .before .words-on2 .ensures)
+    (b .pre .0, loop-asks (leads b) (roomy b) (turn p .loop-test .taken) (follows p) (op-is p) (c .before .words-on2 .ensures))
 
 loop-less : tie.Need-loop-less Inv-loop μ-loop
 loop-less c = omega (arith, turn (picked (c .before .before)) .loop-test .taken)

@@ -22,7 +22,7 @@ use Rattle.sample_row.specs.declared.Walk.{Walk}
 
 -- the wish of a pattern word: the values that a trial uses for its codes, as whole numbers
 unfoldable pub wishOf : (lo : ℤ) (w pattern : ℕ) → List ℤ
-wishOf lo w pattern = map (real lo) (valuesOf w (lanes pattern))
+wishOf lo w pattern = map (real lo) (valuesOf w (lanes w pattern))
 
 -- whether a step of op to the words x reads a record: a read that finds none ends its tape
 unfoldable pub takesRecord : Op → (x : Words) → Bool

@@ -25,7 +25,7 @@ abbrev worded : tie.After-get → tie.After-words-at
 worded c = c .before .before
 
 abbrev start : tie.After-get → tie.Start
-start c = worded c .before .before
+start c = worded c .before .before .before
 
 same : (c : tie.After-get) → worded c .words-at .result ≡ wordsAt (entriesOf (columnsOf (now (start c .args .cells)))) (start c .args .k)
 same c = worded c .words-at .ensures
@@ -34,23 +34,23 @@ far : (c : tie.After-get) → c .get .result + 1 ≡ distanceOf (entriesOf (colu
 far c = ap (λ (d : ℕ). d + 1) (c .get .ensures)
 
 fine : (c : tie.After-get) → FanFits (start c .args .w) (start c .args .op) (worded c .words-at .result)
-fine c = subst (FanFits (start c .args .w) (start c .args .op)) (sym (same c)) (start c .pre .1 .1 .0)
+fine c = subst (FanFits (start c .args .w) (start c .args .op)) (sym (same c)) (start c .pre .1 .1 .1 .0)
 
 -- ---- the needs
 words-at-requires : tie.Need-words-at-requires
 words-at-requires c κs =
-    let p = c .before .pre in
+    let p = c .before .before .pre .1 in
     omega (arith, filled-room _ (p .0 .filled), p .0 .filled .index .within, p .1 .0)
 
 get-requires : tie.Need-get-requires
 get-requires c κs =
-    let p = c .before .before .before .pre in
+    let p = c .before .before .before .before .pre .1 in
     (omega (arith, filled-room _ (p .0 .filled), p .0 .filled .index .within, p .1 .0), omega arith)
 
 fan-requires : tie.Need-fan-requires
 fan-requires c κs =
     let g = c .before in
-    (start g .pre .0, (start g .pre .1 .0, fine g))
+    (start g .pre .0, (start g .pre .1 .0, (start g .pre .1 .1 .0, fine g)))
 
 returns : tie.Need-returns
 returns c =
@@ -58,12 +58,17 @@ returns c =
     let g = got f in
     expanded-by _ _ _ _ _ _ _ _ (same g) (far g) (fan-answer (fine g) _ _ _ _ _ _ _ (f .fan .ensures) (c .enum-told .given .1) _)
 
+next-requires : tie.Need-next-requires
+next-requires c κs =
+    let g = got (fanned (c .before)) in
+    (start g .pre .0, (fine g .width, fine g .valid))
+
 visit-requires : tie.Need-visit-requires
 visit-requires c κs =
     let grew = c .before .before .before in
     let f = fanned grew in
     let g = got f in
-    next-ready (fine g) _ _ _ _ _ _ _ (f .fan .ensures) (grew .g .given .1) (start g .pre .1 .0)
+    next-ready (fine g) _ _ _ _ _ _ _ (f .fan .ensures) (grew .g .given .1) (start g .pre .1 .1 .0)
 
 returns-2 : tie.Need-returns-2
 returns-2 c =
@@ -88,7 +93,7 @@ expand-spec =
     (λ c. search needs)
     (λ c. search needs)
     returns
-    (λ c κs. fine (got (fanned (c .before))) .width)
+    next-requires
     visit-requires
     (λ c κs. search needs)
     (λ c. search needs)

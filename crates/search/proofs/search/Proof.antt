@@ -23,10 +23,13 @@ walk-requires : tie.Need-walk-requires
 walk-requires c κs =
     let g = c .before .before in
     let counted = g .before .before .before in
-    let start = counted .before .before in (
+    let start = counted .before .before .before in (
       start .pre .0,
-      begun-exploring _ _ (start .pre .1) (g .begin .ensures)
-          (marks-room (now (start .args .cells)) _ _ (counted .cells-of .ensures) (g .begin .kept .0)),
+      (
+        start .pre .1 .0,
+        begun-exploring _ _ (start .pre .1 .1) (g .begin .ensures)
+            (marks-room (now (start .args .cells)) _ _ (counted .cells-of .ensures) (g .begin .kept .0)),
+      ),
     )
 
 returns-2 : tie.Need-returns-2
@@ -34,7 +37,7 @@ returns-2 c =
     let w = c .before in
     let g = w .before .before .before in
     let counted = g .before .before .before in
-    let start = counted .before .before in
+    let start = counted .before .before .before in
     λ s is. of-all-cells _ _ _ _ _ _ _ (counted .cells-of .ensures)
     (w .walk .ensures s (begun-exploring _ _ is (g .begin .ensures)
     (marks-room (now (start .args .cells)) _ _ (counted .cells-of .ensures) (g .begin .kept .0))))

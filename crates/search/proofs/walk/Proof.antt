@@ -21,12 +21,12 @@ use Rattle.search.proofs.walk.Statement.{statement}
 use Rattle.search.proofs.walk.Tie as tie
 
 abbrev Inv-loop : tie.InvT-loop
-Inv-loop cells₀ size w ops n₀ k₀ cells n k =
+Inv-loop cells₀ table size w ops n₀ k₀ cells n k =
     ((s : Subject w ops) → Exploring (s .lo) w (s .flow) (columnsOf cells₀) 1 size 0 → Exploring (s .lo) w (s .flow) (columnsOf cells) n size k)
     × (length cells ≡ length cells₀)
 
 abbrev μ-loop : tie.MeasureT-loop
-μ-loop cells₀ size w ops n₀ k₀ cells n k = size - k
+μ-loop cells₀ table size w ops n₀ k₀ cells n k = size - k
 
 -- ---- the way back: what is expanded, the instruction that is picked, and the turn of the loop
 abbrev expanded : tie.After-g Inv-loop μ-loop → tie.After-expand Inv-loop μ-loop
@@ -40,13 +40,13 @@ turn c = c .before .before .before .before .before
 
 -- the search, as a turn finds it
 exploring : (c : tie.In-loop Inv-loop μ-loop) → let at = c .before in
-    let b = at .before in
-    let s = b .pre .0 in
+    let b = at .before .before in
+    let s = b .pre .1 .0 in
     Exploring (s .lo) (b .args .w) (s .flow) (columnsOf (at .loop .cells)) (at .loop .n) (b .args .size) (at .loop .k)
-exploring c = let at = c .before in at .loop .inv .0 (at .before .pre .0) (at .before .pre .1)
+exploring c = let at = c .before in let b = at .before .before in at .loop .inv .0 (b .pre .1 .0) (b .pre .1 .1)
 
 -- the instruction is that of the entry, whatever flow it is prepared from
-pick : (c : tie.Joined1 Inv-loop μ-loop) → let at = turn c .before in (s : Subject (at .before .args .w) (at .before .args .t3))
+pick : (c : tie.Joined1 Inv-loop μ-loop) → let at = turn c .before in (s : Subject (at .before .before .args .w) (at .before .before .args .t4))
     → c .if1 .op ≡ opAt (s .lo) (s .flow) (wordsAt (entriesOf (columnsOf (at .loop .cells))) (at .loop .k))
 pick c s =
     let stop = c .before in
@@ -67,10 +67,11 @@ word-requires c κs =
 expand-requires : tie.Need-expand-requires Inv-loop μ-loop
 expand-requires c κs =
     let in-turn = turn (c .before) in
-    let s = in-turn .before .before .pre .0 in
+    let b = in-turn .before .before .before in
+    let s = b .pre .1 .0 in
     let x = exploring in-turn in
     let l = in-turn .loop-test .taken in
-    (x .ready, (l, (entry-fine (s .fit) x l (pick (c .before) s), entry-near (s .fit) x l)))
+    (b .pre .0, (x .ready, (l, (entry-fine (s .fit) x l (pick (c .before) s), entry-near (s .fit) x l))))
 
 returns : tie.Need-returns Inv-loop μ-loop
 unfolding SearchedIs

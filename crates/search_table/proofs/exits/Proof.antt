@@ -16,11 +16,11 @@ use Rattle.search_table.proofs.exits.Statement.{statement}
 use Rattle.search_table.proofs.exits.Tie as tie
 
 abbrev Inv-loop : tie.InvT-loop
-Inv-loop cells n w ops p₀ m₀ k₀ p m k =
+Inv-loop cells table n w ops p₀ m₀ k₀ p m k =
     (k ≤ n) × Filling w (wordColumn placeField cells) (wordColumn patternField cells) (column distanceField cells) ops p-exit k p × Filling w (wordColumn placeField cells) (wordColumn patternField cells) (column distanceField cells) ops m-exit k m
 
 abbrev μ-loop : tie.MeasureT-loop
-μ-loop cells n w ops p₀ m₀ k₀ p m k = n - k
+μ-loop cells table n w ops p₀ m₀ k₀ p m k = n - k
 
 loop-holds : tie.Need-loop-holds Inv-loop μ-loop
 loop-holds c = (search needs, filling-start, filling-start)
@@ -30,22 +30,22 @@ there : (c : List (List ℕ)) {n : ℕ} → Walkable (wordColumn placeField c) (
 there c w = omega (arith, w .place-room, length-word-column placeField c)
 
 words-at-requires : tie.Need-words-at-requires Inv-loop μ-loop
-words-at-requires c κs = omega (arith, c .loop-test .taken, there _ (c .before .before .pre .1))
+words-at-requires c κs = omega (arith, c .loop-test .taken, there _ (c .before .before .before .pre .1 .1))
 
 index-requires : tie.Need-index-requires Inv-loop μ-loop
 index-requires c κs =
     let i = c .before in
-    subst (λ (x : Words). Stands (x .place)) (sym (c .words-at .ensures)) (i .before .before .pre .1 .stands _ (i .loop-test .taken))
+    subst (λ (x : Words). Stands (x .place)) (sym (c .words-at .ensures)) (i .before .before .before .pre .1 .1 .stands _ (i .loop-test .taken))
 
 get-requires : tie.Need-get-requires Inv-loop μ-loop
 get-requires c κs =
     let i = c .before .before .before in
-    (omega (arith, i .loop-test .taken, there _ (i .before .before .pre .1)), omega arith)
+    (omega (arith, i .loop-test .taken, there _ (i .before .before .before .pre .1 .1)), omega arith)
 
 add-d : tie.Need-add-d Inv-loop μ-loop
 add-d c =
     let i = c .before .before .before .before in
-    let walk = i .before .before .pre .1 in
+    let walk = i .before .before .before .pre .1 .1 in
     omega (arith, c .get .ensures, walk .few, walk .near (i .before .loop .k) (i .loop-test .taken), i .loop-test .taken)
 
 loop-again : tie.Need-loop-again Inv-loop μ-loop

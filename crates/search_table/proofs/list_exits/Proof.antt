@@ -12,7 +12,7 @@ use Rattle.search_table.proofs.list_exits.Tie as tie
 
 both : tie.Need-returns
 both c =
-    let a = c .before .before .args in (
+    let a = c .before .before .before .args in (
       kept-old (takesOf (a .w) (a .op) (a .x) p-exit) (a .p) (a .d) (λ e. omega (arith, c .before .if1 .taken, e)),
       kept-old (takesOf (a .w) (a .op) (a .x) m-exit) (a .m) (a .d) (λ e. omega (arith, c .if2 .taken, e)),
     )
@@ -20,7 +20,7 @@ both c =
 looked : tie.Need-returns-2
 looked c =
     let exits = c .before .before in
-    let a = exits .before .before .args in (
+    let a = exits .before .before .before .args in (
       c .before .kept .ensures ∙ ap (λ (b : Bool). cond (b && eqb (a .p) 0) (a .d) (a .p)) (exits .exits-of .ensures .0),
       c .kept2 .ensures ∙ ap (λ (b : Bool). cond (b && eqb (a .m) 0) (a .d) (a .m)) (exits .exits-of .ensures .1),
     )

@@ -12,23 +12,23 @@ use Rattle.search_table.proofs.nearest.Statement.{statement}
 use Rattle.search_table.proofs.nearest.Tie as tie
 
 abbrev Inv-loop : tie.InvT-loop
-Inv-loop cells n op w instruction exit k₀ k = (k ≤ n) × NoneBefore (takesAt w (wordColumn placeField cells) (wordColumn patternField cells) op instruction (exitIf exit)) k
+Inv-loop cells table n op w instruction exit k₀ k = (k ≤ n) × NoneBefore (takesAt w (wordColumn placeField cells) (wordColumn patternField cells) op instruction (exitIf exit)) k
 
 abbrev μ-loop : tie.MeasureT-loop
-μ-loop cells n op w instruction exit k₀ k = n - k
+μ-loop cells table n op w instruction exit k₀ k = n - k
 
 loop-holds : tie.Need-loop-holds Inv-loop μ-loop
 loop-holds c = (search needs, none-at-start _)
 
 words-at-requires : tie.Need-words-at-requires Inv-loop μ-loop
-words-at-requires c κs = omega (arith, c .loop-test .taken, c .before .before .pre .1)
+words-at-requires c κs = omega (arith, c .loop-test .taken, c .before .before .before .pre .1 .1)
 
 returns : tie.Need-returns Inv-loop μ-loop
 unfolding takesAt
 returns c =
     let x = c .before .before in
     let i = x .before in
-    let a = i .before .before .args in
+    let a = i .before .before .before .args in
     first-found (i .loop-test .taken) (i .before .loop .inv .1) (takes-words _ (a .instruction) _ _ (c .before .takes .ensures) (x .words-at .ensures)) (c .if1 .taken)
 
 loop-again : tie.Need-loop-again Inv-loop μ-loop
@@ -36,7 +36,7 @@ unfolding takesAt
 loop-again c =
     let x = c .before .before in
     let l = x .before .before .loop in
-    let a = x .before .before .before .args in
+    let a = x .before .before .before .before .args in
     (search needs, none-past (l .k) (l .inv .1) (takes-words _ (a .instruction) _ _ (c .before .takes .ensures) (x .words-at .ensures)) (c .if1 .left))
 
 returns-2 : tie.Need-returns-2 Inv-loop μ-loop

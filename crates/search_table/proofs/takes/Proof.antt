@@ -18,7 +18,7 @@ exits-of-requires c κs = search needs
 returns-2 : tie.Need-returns-2
 returns-2 c =
     let s = c .before .before .before .before in
-    let a = s .args in
+    let a = s .before .args in
     let at = c .before .before .before .at in
     takes-told (a .w) (a .op) (a .x) (at .result) (a .instruction) _ (a .exit) p-exit (at .ensures .0) (c .before .before .if1 .left)
     (ap exitIf (c .if2 .taken)) (c .before .exits-of .ensures .0)
@@ -26,7 +26,7 @@ returns-2 c =
 returns-3 : tie.Need-returns-3
 returns-3 c =
     let s = c .before .before .before .before in
-    let a = s .args in
+    let a = s .before .args in
     let at = c .before .before .before .at in
     takes-told (a .w) (a .op) (a .x) (at .result) (a .instruction) _ (a .exit) m-exit (at .ensures .0) (c .before .before .if1 .left)
     (ap exitIf (c .if2 .left)) (c .before .exits-of .ensures .1)

@@ -18,13 +18,13 @@ use Rattle.search_visit.proofs.members.Statement.{statement}
 use Rattle.search_visit.proofs.members.Tie as tie
 
 abbrev Inv-loop : tie.InvT-loop
-Inv-loop cells₀ count size d k w v first last n₀ y₀ cells n y =
+Inv-loop cells₀ table count size d k w v first values last n₀ y₀ cells n y =
     Kept (Member w v first) (Tried w v first y) (entriesOf (columnsOf cells₀)) (entriesOf (columnsOf cells)) (columnsOf cells .heads) (columnsOf cells .nexts)
     count size d k n × (7 ≤ y) × Unmarked (column marksField cells₀) (column marksField cells) count n
     × (length cells ≡ length cells₀)
 
 abbrev μ-loop : tie.MeasureT-loop
-μ-loop cells₀ count size d k w v first last n₀ y₀ cells n y = w + 25 - y
+μ-loop cells₀ table count size d k w v first values last n₀ y₀ cells n y = w + 25 - y
 
 -- ---- the way back: the visit, and the member made
 abbrev visited : tie.After-s Inv-loop μ-loop → tie.After-visit Inv-loop μ-loop
@@ -35,17 +35,18 @@ made c = c .before .before
 
 -- ---- the needs
 loop-holds : tie.Need-loop-holds Inv-loop μ-loop
-loop-holds c = (members-none _ _ _ (c .pre .0), omega arith, fresh-none _ _, refl)
+loop-holds c = (members-none _ _ _ (c .before .before .pre .1 .0), omega arith, fresh-none _ _, refl)
 
 fan-at-requires : tie.Need-fan-at-requires Inv-loop μ-loop
 fan-at-requires c κs =
-    let start = c .before .before in
-    (start .pre .1 .1 .0, start .pre .1 .1 .1)
+    let made = c .before .before in
+    let start = made .before .before .pre in
+    (start .0, (start .1 .1 .1 .0, (start .1 .1 .1 .1, made .held .ensures)))
 
 visit-requires : tie.Need-visit-requires Inv-loop μ-loop
 visit-requires c κs =
     let at = c .before .before .before in
-    (at .loop .inv .0 .filled, omega (arith, kept-count (at .loop .inv .0), at .before .pre .1 .0))
+    (at .loop .inv .0 .filled, omega (arith, kept-count (at .loop .inv .0), at .before .before .before .pre .1 .1 .0))
 
 returns : tie.Need-returns Inv-loop μ-loop
 unfolding MembersIs
@@ -62,7 +63,7 @@ returns c =
 add-y : tie.Need-add-y Inv-loop μ-loop
 add-y c =
     let inside = made (visited (c .before)) .before in
-    record { fits = omega (arith, inside .loop-test .taken, inside .before .before .pre .1 .1 .0 .few) }
+    record { fits = omega (arith, inside .loop-test .taken, inside .before .before .before .before .pre .1 .1 .1 .0 .few) }
 
 loop-less : tie.Need-loop-less Inv-loop μ-loop
 loop-less c = omega (arith, made (visited (c .before)) .before .loop-test .taken)
@@ -93,6 +94,7 @@ members-spec =
     (tie.spec
     Inv-loop
     μ-loop
+    (λ c κs. search needs)
     (λ c. search needs)
     loop-holds
     fan-at-requires

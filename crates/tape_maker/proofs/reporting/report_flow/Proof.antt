@@ -15,11 +15,13 @@ abbrev searched : tie.After-found → tie.After-search
 searched c = c .before .before .before
 
 abbrev planned : tie.After-search → tie.After-plan-of
-planned c = c .before .before .before .before
+planned c = c .before .before .before .before .before .before
 
 -- ---- the needs
 search-requires : tie.Need-search-requires
-search-requires c κs = plan-subject (c .before .before .before .plan-of .ensures)
+search-requires c κs =
+    let made = c .before .before in
+    (made .make-table .ensures, plan-subject (made .before .before .before .plan-of .ensures))
 
 -- the search is finished
 finished : (c : tie.After-found) → let s = searched c in
@@ -30,9 +32,10 @@ finished c = let s = searched c in search-done (planned s .plan-of .ensures) _ (
 
 exits-requires : tie.Need-exits-requires
 exits-requires c κs =
-    let found = c .before .before in
-    let plan = planned (searched found) .plan-of .ensures in
-    (plan-wide plan, finished-walkable plan (finished found))
+    let found = c .before .before .before in
+    let s = searched found in
+    let plan = planned s .plan-of .ensures in
+    (s .before .before .before .make-table .ensures, (plan-wide plan, finished-walkable plan (finished found)))
 
 returns : tie.Need-returns
 returns c =
@@ -45,7 +48,7 @@ returns c =
 returns-2 : tie.Need-returns-2
 returns-2 c =
     let exits = c .before .before in
-    let found = exits .before .before .before in
+    let found = exits .before .before .before .before in
     let plan = planned (searched found) in
     done-searched (plan .before .args .flow) (plan .plan-of .ensures) (plan .before .pre .1) _ _ (finished found) _ (exits .exits .ensures) (c .given .ensures)
 
@@ -54,9 +57,12 @@ report-flow-spec =
     tie.close
     (tie.spec
     (λ c κs. search needs)
+    (λ c κs. search needs)
+    (λ c. search needs)
     search-requires
     (λ c. search needs)
     (λ c κs. search needs)
+    (λ c. search needs)
     (λ c. search needs)
     exits-requires
     (λ c κs. search needs)

@@ -23,13 +23,13 @@ use Rattle.flow.specs.inner.Rows.{flowOf}
 
 -- ---- the way back: what was found, the search, the plan, the start
 abbrev found : tie.After-struct-told2 → tie.After-found
-found c = c .before .before .before .before .before .before
+found c = c .before .before .before .before .before .before .before
 
 abbrev searched : tie.After-found → tie.After-search
 searched c = c .before .before .before
 
 abbrev planned : tie.After-search → tie.After-plan-of
-planned c = c .before .before .before .before
+planned c = c .before .before .before .before .before .before
 
 abbrev start : tie.After-plan-of → tie.Start
 start c = c .before .before .before .before
@@ -49,7 +49,9 @@ wanted c =
     flow-exits (start c .args .flow) (start c .args .instruction) (sym (left .before .has-exits .ensures) ∙ not-false _ (left .if1 .left))
 
 search-requires : tie.Need-search-requires
-search-requires c κs = plan-subject (c .before .before .before .plan-of .ensures)
+search-requires c κs =
+    let made = c .before .before in
+    (made .make-table .ensures, plan-subject (made .before .before .before .plan-of .ensures))
 
 returns-2 : tie.Need-returns-2
 returns-2 c =
@@ -80,7 +82,9 @@ tabled c =
     finished-tabled (plan .plan-of .ensures) _ (finished (found c)) (wanted plan) (toZ-ofZ low) (toZ-ofZ high)
 
 sample-for-requires : tie.Need-sample-for-requires
-sample-for-requires c κs = (flowOf (start (planned (searched (found c))) .args .flow), tabled c)
+sample-for-requires c κs =
+    let s = searched (found c) in
+    (s .before .before .before .make-table .ensures, (flowOf (start (planned s) .args .flow), tabled c))
 
 returns-3 : tie.Need-returns-3
 unfolding flowOf
@@ -100,9 +104,12 @@ sample-flow-spec =
     (λ c κs. search needs)
     returns
     (λ c κs. search needs)
+    (λ c κs. search needs)
+    (λ c. search needs)
     search-requires
     (λ c. search needs)
     (λ c κs. search needs)
+    (λ c. search needs)
     (λ c. search needs)
     (λ c. search needs)
     sample-for-requires

@@ -1,0 +1,13 @@
+-- `pattern::index` meets its contract: the four digits, from the last to the first.
+use Rattle.configuration.proofs.Recalled as recalled
+use borrow.Author.Needs.{needs}
+use Rattle.configuration.proofs.pattern.index.Statement.{statement}
+use Rattle.configuration.proofs.pattern.index.Tie as tie
+
+returns : tie.Need-returns
+returns c =
+    recalled.index-four _ _ (search needs) _ _ _ _ (c .before .before .before .over .ensures) (c .before .before .over2 .ensures) (c .before .over3 .ensures)
+    (c .over4 .ensures)
+
+pub index-spec : {M : Type 1} → statement M
+index-spec = tie.close (tie.spec (λ c. search needs) (λ c κs. search needs) (λ c. search needs) (λ c κs. search needs) (λ c. search needs) (λ c κs. search needs) (λ c. search needs) (λ c κs. search needs) returns)

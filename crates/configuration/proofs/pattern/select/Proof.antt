@@ -1,0 +1,14 @@
+-- `pattern::select` meets its contract.
+use native.Mathlib.Omega.{arith}
+use Rattle.configuration.proofs.Recalled as recalled
+use Rattle.configuration.proofs.pattern.select.Statement.{statement}
+use Rattle.configuration.proofs.pattern.select.Tie as tie
+
+returns : tie.Need-returns
+returns c = let a = c .before .args in recalled.select-inside (a .d) (a .w) (a .inside) (a .outside) (omega arith)
+
+returns-2 : tie.Need-returns-2
+returns-2 c = let a = c .before .args in recalled.select-outside (a .d) (a .w) (a .inside) (a .outside) (omega arith)
+
+pub select-spec : {M : Type 1} → statement M
+select-spec = tie.close (tie.spec returns returns-2)
