@@ -2,6 +2,7 @@
 
 pub mod cells;
 pub mod configuration;
+pub mod outside;
 pub mod reading;
 pub mod running;
 pub mod sampling;
@@ -56,8 +57,9 @@ pub fn report(text: &[u8], cells: &mut [Cell]) -> Result<Report, Refusal> {
     let cells = &mut Cells(cells);
     let reported = reading::read(text).and_then(|flow| {
         let plan = Plan::of(&flow);
-        let n = searching::search(cells, &plan).ok_or((9, 0))?;
-        let (p, m) = searching::exits(cells, n, &plan);
+        let table = outside::table();
+        let n = searching::search(cells, &plan, &table).ok_or((9, 0))?;
+        let (p, m) = searching::exits(cells, n, &plan, &table);
         let mut two = [false; 64];
         for (two, x) in two.iter_mut().zip(&flow.instructions[..flow.count]) {
             *two = x.kind.two_exits();
@@ -79,8 +81,9 @@ pub fn sample(text: &[u8], instruction: u64, exit: bool, cells: &mut [Cell], row
             return Err((11, 0));
         }
         let plan = Plan::of(&flow);
-        let n = searching::search(cells, &plan).ok_or((9, 0))?;
-        let Some(k) = searching::nearest(cells, n, &plan, instruction as usize, exit) else {
+        let table = outside::table();
+        let n = searching::search(cells, &plan, &table).ok_or((9, 0))?;
+        let Some(k) = searching::nearest(cells, n, &plan, &table, instruction as usize, exit) else {
             return Ok(None);
         };
         let steps = cells.distance(k) as usize;
@@ -88,7 +91,7 @@ pub fn sample(text: &[u8], instruction: u64, exit: bool, cells: &mut [Cell], row
             return Err((10, 0));
         }
         cells.trace(k);
-        let lengths = sampling::write(cells, steps, &plan, exit, row);
+        let lengths = sampling::write(cells, steps, &plan, &table, exit, row);
         Ok(Some(Sample { distance: steps as u32 + 1, tapes: flow.tapes, lengths }))
     });
     if sampled.is_err() {

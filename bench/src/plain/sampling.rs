@@ -86,7 +86,7 @@ fn takes_record(op: &Op, next: u64) -> bool {
 }
 
 /// A sample for the exit, p if `exit`, of the instruction at the end of the way that was traced.
-pub fn write(cells: &Cells, steps: usize, plan: &Plan, exit: bool, row: &mut [i32]) -> [usize; 3] {
+pub fn write(cells: &Cells, steps: usize, plan: &Plan, table: &[u16], exit: bool, row: &mut [i32]) -> [usize; 3] {
     let (w, lo, hi) = (plan.w, plan.lo, plan.hi);
     let place = |t: usize| cells.place(cells.way(t));
     let op = |t: usize| &plan.ops[configuration::at(place(t)) - 1];
@@ -106,7 +106,7 @@ pub fn write(cells: &Cells, steps: usize, plan: &Plan, exit: bool, row: &mut [i3
         let op = op(t);
         if takes_record(op, place(t + 1)) {
             let pattern = cells.pattern(cells.way(t + 1));
-            let wish = [0, 1, 2, 3].map(|u| lo - 16 + configuration::value(configuration::lane(pattern, u), w) as i32);
+            let wish = configuration::values(pattern, w, table).map(|x| lo - 16 + x as i32);
             walk.read(row, lo, hi, wish, usize::from(op.tape), usize::from(op.variable));
         } else if op.action == Action::Assign {
             let x = if op.left < 4 { walk.values[usize::from(op.left)] } else { lo + op.constant as i32 };

@@ -5,18 +5,19 @@ use super::configuration::{self as configuration, Action, Op, Words};
 use super::Plan;
 
 /// What a read that finds a record leads to from x, which is entry k: its fan, unless the fan is marked.
-fn fan(cells: &mut Cells, n: &mut usize, size: usize, k: usize, d: u32, op: &Op, w: u64, x: Words) -> Option<()> {
+fn fan(cells: &mut Cells, n: &mut usize, size: usize, k: usize, d: u32, op: &Op, w: u64, x: Words, table: &[u16]) -> Option<()> {
     if op.action != Action::Read || configuration::ended(x.place, op.tape) {
         return Some(());
     }
     let v = op.variable;
-    let first = configuration::take(op, w, x, configuration::LOW);
+    let first = configuration::take(op, w, x, configuration::LOW, table);
     let i = cells.visit(n, size, first.place, first.pattern, d, k)?;
     if cells.marked(i, v) {
         return Some(());
     }
+    let values = configuration::values(first.pattern, w, table);
     for y in configuration::FIRST_TRIAL..=w + configuration::LAST_TRIAL {
-        let pattern = configuration::fan_at(first.pattern, w, v, y);
+        let pattern = configuration::fan_at(first.pattern, values, w, v, y, table);
         cells.visit(n, size, first.place, pattern, d, k)?;
     }
     cells.mark(i, v);
@@ -24,7 +25,7 @@ fn fan(cells: &mut Cells, n: &mut usize, size: usize, k: usize, d: u32, op: &Op,
 }
 
 /// The number of reachable configurations; none if there are too few cells.
-pub fn search(cells: &mut Cells, plan: &Plan) -> Option<usize> {
+pub fn search(cells: &mut Cells, plan: &Plan, table: &[u16]) -> Option<usize> {
     let size = cells.size();
     if size == 0 {
         return None;
@@ -36,8 +37,8 @@ pub fn search(cells: &mut Cells, plan: &Plan) -> Option<usize> {
         let x = Words { place: cells.place(k), pattern: cells.pattern(k) };
         let op = &plan.ops[configuration::at(x.place) - 1];
         let d = cells.distance(k) + 1;
-        fan(cells, &mut n, size, k, d, op, plan.w, x)?;
-        let y = configuration::next(op, plan.w, x);
+        fan(cells, &mut n, size, k, d, op, plan.w, x, table)?;
+        let y = configuration::next(op, plan.w, x, table);
         cells.visit(&mut n, size, y.place, y.pattern, d, k)?;
         k += 1;
     }
@@ -45,7 +46,7 @@ pub fn search(cells: &mut Cells, plan: &Plan) -> Option<usize> {
 }
 
 /// The distances of all exits.
-pub fn exits(cells: &Cells, n: usize, plan: &Plan) -> ([u32; 64], [u32; 64]) {
+pub fn exits(cells: &Cells, n: usize, plan: &Plan, table: &[u16]) -> ([u32; 64], [u32; 64]) {
     let mut p = [0; 64];
     let mut m = [0; 64];
     for k in 0..n {
@@ -54,7 +55,7 @@ pub fn exits(cells: &Cells, n: usize, plan: &Plan) -> ([u32; 64], [u32; 64]) {
         if p[i] != 0 && m[i] != 0 {
             continue;
         }
-        let taken = configuration::exits_of(&plan.ops[i], plan.w, x);
+        let taken = configuration::exits_of(&plan.ops[i], plan.w, x, table);
         let d = cells.distance(k) + 1;
         if taken.0 && p[i] == 0 {
             p[i] = d;
@@ -67,14 +68,14 @@ pub fn exits(cells: &Cells, n: usize, plan: &Plan) -> ([u32; 64], [u32; 64]) {
 }
 
 /// The first entry that takes the exit.
-pub fn nearest(cells: &Cells, n: usize, plan: &Plan, instruction: usize, exit: bool) -> Option<usize> {
+pub fn nearest(cells: &Cells, n: usize, plan: &Plan, table: &[u16], instruction: usize, exit: bool) -> Option<usize> {
     let op = &plan.ops[instruction - 1];
     (0..n).find(|k| {
         let x = Words { place: cells.place(*k), pattern: cells.pattern(*k) };
         if configuration::at(x.place) != instruction {
             return false;
         }
-        let (p, m) = configuration::exits_of(op, plan.w, x);
+        let (p, m) = configuration::exits_of(op, plan.w, x, table);
         if exit {
             p
         } else {
