@@ -230,7 +230,8 @@ fn main() {
     let (landed, landings) = {
         head("Request", "Library", "Library before");
         let landed = [&longest, &short, &merge, &endless].map(|run| run.against(before::run, |told| told));
-        (landed, all.iter().filter_map(|s| landing(cells, s)).collect::<Vec<Compared>>())
+        let landings: Vec<(usize, Compared)> = all.iter().enumerate().filter_map(|(i, s)| Some((i, landing(cells, s)?))).collect();
+        (landed, landings)
     };
     println!("\n| Wanted | In this run |\n|---|---|");
     wanted("the longest flow read within 2 times plain Rust", &readings[..1]);
@@ -245,6 +246,10 @@ fn main() {
     {
         wanted("reading within 1.05 times the library before", &landed[..2]);
         wanted("a run's step within 1.05 times the library before", &landed[2..]);
-        wanted("a report with a full table within 1.1 times the library before", &landings);
+        // the fifth flow of a family has the most configurations
+        let largest: Vec<Compared> = landings.iter().filter(|l| l.0 % 5 == 4).map(|l| l.1).collect();
+        let all: Vec<Compared> = landings.iter().map(|l| l.1).collect();
+        wanted("a report over 65,536 cells within 1.15 times the library before", &largest);
+        wanted("a report with any full table within 1.1 times the library before", &all);
     }
 }

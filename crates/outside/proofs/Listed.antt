@@ -24,7 +24,7 @@ pub rises : T (rising (outside 1)) × T (rising (outside 2)) × T (rising (outsi
 unfolding rising allPass before outside isOwn same eight keep rows led bind ranksOf pattern mark different among
 rises = (tt, tt, tt, tt)
 
--- ---- nothing stands twice in a list of whole outside-numbers: a test
+-- ---- nothing stands twice in a list of whole numbers: a test
 pub in-among : (x : ℤ) (l : List ℤ) → In x l → T (among x l)
 unfolding among
 in-among x (y ∷ l) (inl e) = or-left (equal x y) (among x l) (equal-out x y e)

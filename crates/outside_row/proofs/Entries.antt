@@ -20,9 +20,9 @@ use Rattle.outside_row.proofs.Keys.{slot-tells}
 use Rattle.outside_row.proofs.Places.{in-getD, once-place}
 
 -- ---- the numbers of the eight ranks
-number-below : (x : ℤ) → In x eight → rankNumber x < 8
+number-eight : (x : ℤ) → In x eight → rankNumber x < 8
 unfolding eight rankNumber
-number-below x h =
+number-eight x h =
     all-in (λ y. rankNumber y < 8) eight x (omega arith, (omega arith, (omega arith, (omega arith, (omega arith, (omega arith, (omega arith, (omega arith, tt)))))))) h
 
 -- the rank that has the number
@@ -46,7 +46,7 @@ pub entry-eight : (v : ℕ) (l : List ℕ) → In l (entriesFor v) → All (λ b
 unfolding entriesFor
 entry-eight v l h =
     let (r, k, e) = map-in (map rankNumber) l (outside v) h in
-    subst (All (λ b. b < 8)) e (all-map (λ x. In x eight) (λ b. b < 8) rankNumber number-below r (outside-eight v r k))
+    subst (All (λ b. b < 8)) e (all-map (λ x. In x eight) (λ b. b < 8) rankNumber number-eight r (outside-eight v r k))
 
 pub entry-width : (v : ℕ) (l : List ℕ) → In l (entriesFor v) → length l ≡ v
 unfolding entriesFor

@@ -22,7 +22,6 @@ unfoldable pub termOf : Op → (codes : List ℕ) → ℕ → ℕ
 termOf op codes u = cond (ltb u maxVariables) (getD codes u 0) (op .constant)
 
 -- whether the comparison holds
-
 unfoldable pub holdsOf : (w : ℕ) → Op → Words → Bool
 holdsOf w op x = lessOf w (termOf op (lanes w (x .pattern)) (op .left)) (termOf op (lanes w (x .pattern)) (op .right))
 

@@ -16,7 +16,7 @@ listed : (c : tie.Then1) → HasEntry (start (c .before) .args .v) (start (c .be
 listed c =
     let f = c .before in
     let s = start f in
-    is-listed _ _ _ _ (s .pre .1 .0) (s .pre .1 .1) (f .before .first .ensures) (f .first2 .ensures) (c .if1 .taken)
+    is-listed _ _ _ _ (s .pre .1 .0) (s .pre .1 .1) (f .before .first .ensures) (f .first2 .ensures) (omega (arith, c .if1 .taken))
 
 sub-if1 : tie.Need-sub-if1
 sub-if1 c =
@@ -37,7 +37,8 @@ returns c =
     let f = t .before in
     let s = start f in
     c .wide .ensures .0
-    ∙ key-is _ _ _ _ (s .pre .1 .0) (s .pre .1 .1) (f .before .first .ensures) (f .first2 .ensures) (now (s .args .table)) (s .pre .0) (t .if1 .taken)
+    ∙ key-is _ _ _ _ (s .pre .1 .0) (s .pre .1 .1) (f .before .first .ensures) (f .first2 .ensures) (now (s .args .table)) (s .pre .0)
+    (omega (arith, t .if1 .taken))
 
 returns-2 : tie.Need-returns-2
 returns-2 c =
