@@ -16,7 +16,7 @@ fn fan(cells: &mut Cells, n: &mut usize, size: usize, k: usize, d: u32, op: &Op,
         return Some(());
     }
     let values = configuration::values(first.pattern, w, table);
-    for y in configuration::FIRST_TRIAL..=w + configuration::LAST_TRIAL {
+    for y in configuration::trials(&values, w) {
         let pattern = configuration::fan_at(first.pattern, values, w, v, y, table);
         cells.visit(n, size, first.place, pattern, d, k)?;
     }

@@ -15,7 +15,7 @@ use Rattle.outside_row.proofs.Entries.{entry-eight}
 use Rattle.configuration.specs.inner.Digits.{digits, Below}
 use Rattle.configuration.specs.inner.Pattern.{Width, lane, lanes, excess, weave, recallOf, AreCodes, storeFrom, storeOf}
 use Rattle.configuration.specs.inner.Pattern.{low, high, within}
-use Rattle.configuration.proofs.Digits.{digits-below, length-digits, four-again}
+use Rattle.configuration.proofs.Digits.{length-digits, four-again}
 use Rattle.configuration.proofs.Ranks.{codes-below, length-codes}
 use Rattle.configuration.proofs.Stored.{excess-inside, excess-outside, InOrOut, lower, upper, in-or-out, none-stored, none-woven, excess-few, codes-storable}
 
@@ -186,30 +186,29 @@ weave-digit w [] l u k h = refl
 weave-digit w (x ∷ ds) l zero k h = rw (lt-ltb x w h)
 weave-digit w (x ∷ ds) l (suc u) k h = weave-digit w ds (cond (ltb x w) l (drop 1 l)) u (omega arith) h
 
-weave-below : (w m : ℕ) → w + 8 ≤ m → (ds l : List ℕ) → Below m ds → Octal l → Below m (weave w ds l)
+weave-below : (w : ℕ) (ds l : List ℕ) → Octal l → Below (w + 8) (weave w ds l)
 unfolding weave
-weave-below w m h [] l b o i = omega arith
-weave-below w m h (d ∷ ds) l b o zero = go (ltb d w) l o
+weave-below w [] l o i = omega arith
+weave-below w (d ∷ ds) l o zero = go (ltb d w) refl l o
   where
-    go : (t : Bool) (l : List ℕ) → Octal l → cond t d (w + getD l 0 0) < m
-    go true l o = b 0
-    go false [] o = omega arith
-    go false (x ∷ l) (k, o) = omega arith
-weave-below w m h (d ∷ ds) l b o (suc i) = weave-below w m h ds (cond (ltb d w) l (drop 1 l)) (λ j. b (suc j)) (octal-left w d l o) i
+    go : (t : Bool) → ltb d w ≡ t → (l : List ℕ) → Octal l → cond t d (w + getD l 0 0) < w + 8
+    go true e l o = omega (arith, ltb-true d w e)
+    go false e [] o = omega arith
+    go false e (x ∷ l) (k, o) = omega arith
+weave-below w (d ∷ ds) l o (suc i) = weave-below w ds (cond (ltb d w) l (drop 1 l)) (octal-left w d l o) i
+
+-- whatever the word, a code is below w + 8
+pub lanes-below : (w pattern : ℕ) → Below (w + 8) (lanes w pattern)
+unfolding recallOf
+lanes-below w pattern = weave-below w (digits lane 4 pattern) _ (entry-octal _ _)
 
 module _ (w pattern : ℕ) (h : Width w) where
-  recall-below : Below lane (lanes w pattern)
-  unfolding recallOf
-  recall-below =
-      let most = h .few in
-      weave-below w lane (omega arith) (digits lane 4 pattern) _ (digits-below lane 4 pattern (omega arith)) (entry-octal _ _)
-
   module _ (d c : List ℕ) (ed : d ≡ digits lane 4 pattern) (ec : c ≡ recallOf w d) where
     pub lanes-recalled : c ≡ lanes w pattern
     lanes-recalled = ec ∙ ap (recallOf w) ed
 
     pub recalled-below : Below lane c
-    recalled-below = subst (Below lane) (sym lanes-recalled) recall-below
+    recalled-below = subst (Below lane) (sym lanes-recalled) (λ i. omega (arith, lanes-below w pattern i, h .few))
 
   -- a code inside is its digit
   pub lane-inside : (u : ℕ) → u < 4 → getD (digits lane 4 pattern) u 0 < w → getD (lanes w pattern) u 0 ≡ getD (digits lane 4 pattern) u 0

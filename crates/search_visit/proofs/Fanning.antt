@@ -10,14 +10,15 @@ use native.Mathlib.Nat.{eq-or-lt-of-le}
 use native.Mathlib.Omega.{arith}
 use lib.ListN.{length}
 use Rattle.model.specs.Machine.{p-exit}
-use Rattle.configuration.specs.inner.Pattern.{Width, low, assignOf}
+use Rattle.configuration.specs.inner.Pattern.{Width, lanes, low, valuesOf, assignOf, firstTrial, lastTrial}
 use Rattle.configuration.specs.inner.Place.{words}
 use Rattle.configuration.specs.inner.Step.{endedOf, nextOf, takeOf, memberOf}
-use Rattle.configuration.specs.inner.Graph.{WordEdge, moves, takes}
+use Rattle.configuration.specs.inner.Graph.{Trial, WordEdge, moves, takes}
 use Rattle.configuration.specs.declared.Words.{Words}
 use Rattle.configuration.specs.declared.Op.{Op}
 use Rattle.configuration.specs.declared.Action.{Action}
 use Rattle.configuration.specs.declared.Action.the-variants.{Read, Assign, Test, Go, Stop}
+use Rattle.configuration.proofs.Trials.{trial-fits, trial-told}
 use Rattle.configuration.proofs.Members.{member-edge, edge-closed, first-again}
 use Rattle.cells.specs.inner.Columns.{Rows}
 use Rattle.cells.specs.inner.Entries.{Entries, entriesOf, Filled}
@@ -65,43 +66,53 @@ pub open-by : (op : Op) (x : Words) (b : Bool) → b ≡ opensOf op x → not b 
 open-by op x true e h = sym e
 open-by op x false e h = absurd (true-false h)
 
--- ---- the members, up to the record y
-abbrev pub Tried : (w v : ℕ) (f : Words) (y : ℕ) (z : Words) → Type 0
-Tried w v f y z = (u : ℕ) × (7 ≤ u) × (u < y) × (memberOf w v f u ≡ z)
+-- ---- the members by the records from b up to the record before y
+abbrev pub Tried : (w v : ℕ) (f : Words) (b y : ℕ) (z : Words) → Type 0
+Tried w v f b y z = (u : ℕ) × (b ≤ u) × (u < y) × (memberOf w v f u ≡ z)
 
-module _ (w v : ℕ) (f : Words) {e₀ : Entries} {count cells d k : ℕ} where
+-- the first and the last record
+pub record Bounds (w : ℕ) (f : Words) (b l : ℕ) : Type 0 where
+  pub first : b ≡ firstTrial (valuesOf w (lanes w (f .pattern)))
+  pub last : l ≡ lastTrial w (valuesOf w (lanes w (f .pattern)))
+
+pub bounds-trial : {w : ℕ} {f : Words} {b l : ℕ} → Bounds w f b l → (y : ℕ) → b ≤ y → y ≤ l → Trial w y
+bounds-trial {w} {f} k y lower upper = trial-fits w (f .pattern) y (omega (arith, k .first)) (omega (arith, k .last))
+
+module _ (w v : ℕ) (f : Words) (b : ℕ) {e₀ : Entries} {count cells d k : ℕ} where
   pub members-none : {heads nexts : List ℕ} → Filled e₀ heads nexts count cells
-      → Kept (Member w v f) (Tried w v f 7) e₀ e₀ heads nexts count cells d k count
+      → Kept (Member w v f) (Tried w v f b b) e₀ e₀ heads nexts count cells d k count
   members-none filled = kept-none filled (λ z t. omega (arith, t .1, t .2))
 
-  module _ {e : Entries} {heads nexts : List ℕ} {n : ℕ} (y : ℕ) (kept : Kept (Member w v f) (Tried w v f y) e₀ e heads nexts count cells d k n) where
-    module _ (first : 7 ≤ y) (last : y ≤ w + 24) (q : ℕ) (is : q ≡ assignOf w (f .pattern) v y) where
+  module _ {e : Entries} {heads nexts : List ℕ} {n : ℕ} (l : ℕ) (bounds : Bounds w f b l) (y : ℕ)
+      (kept : Kept (Member w v f) (Tried w v f b y) e₀ e heads nexts count cells d k n) where
+    module _ (lower : b ≤ y) (upper : y ≤ l) (q : ℕ) (is : q ≡ assignOf w (f .pattern) v y) where
       member : memberOf w v f y ≡ words (f .place) q
       member = ap (words (f .place)) (sym is)
 
       wanted : Member w v f (words (f .place) q)
-      wanted = (y, record { first = first; last = last }, member)
+      wanted = (y, bounds-trial bounds y lower upper, member)
 
       pub members-more : {e′ : Entries} {heads′ nexts′ : List ℕ} {i m : ℕ} → Met e e′ heads′ nexts′ n cells d k (words (f .place) q) i m
-          → Kept (Member w v f) (Tried w v f (y + 1)) e₀ e′ heads′ nexts′ count cells d k m
+          → Kept (Member w v f) (Tried w v f b (y + 1)) e₀ e′ heads′ nexts′ count cells d k m
       members-more met =
-          kept-visit kept (words (f .place) q) wanted met (Tried w v f (y + 1))
+          kept-visit kept (words (f .place) q) wanted met (Tried w v f b (y + 1))
           (λ z t. go z t (eq-or-lt-of-le (omega (arith, t .2))))
         where
-          go : (z : Words) (t : Tried w v f (y + 1) z) → (t .0 ≡ y) ⊎ (t .0 < y) → Tried w v f y z ⊎ (z ≡ words (f .place) q)
-          go z (u, a, b, s) (inl r) = inr (sym s ∙ ap (memberOf w v f) r ∙ member)
-          go z (u, a, b, s) (inr r) = inl (u, a, r, s)
+          go : (z : Words) (t : Tried w v f b (y + 1) z) → (t .0 ≡ y) ⊎ (t .0 < y) → Tried w v f b y z ⊎ (z ≡ words (f .place) q)
+          go z (u, a, h, s) (inl r) = inr (sym s ∙ ap (memberOf w v f) r ∙ member)
+          go z (u, a, h, s) (inr r) = inl (u, a, r, s)
 
       pub members-full : Outgrown (λ z. z ≡ words (f .place) q) d k (tableOf e n) cells → Outgrown (Member w v f) d k (tableOf e₀ count) cells
       members-full = outgrown-visit kept (words (f .place) q) wanted
 
-    pub members-all : w + 24 < y → Kept (Member w v f) (Member w v f) e₀ e heads nexts count cells d k n
-    members-all end =
-        record {
-          filled = kept .filled;
-          grows = kept .grows;
-          all = λ z m. kept .all z (m .0, m .1 .first, omega (arith, m .1 .last), m .2);
-        }
+    -- a member by any other record is one of them
+    pub members-all : l < y → Kept (Member w v f) (Member w v f) e₀ e heads nexts count cells d k n
+    members-all end = record { filled = kept .filled; grows = kept .grows; all = λ z m. kept .all z (tried z m) }
+      where
+        tried : (z : Words) → Member w v f z → Tried w v f b y z
+        tried z (u, t, s) =
+            let (r, lower, upper, same) = trial-told w (f .pattern) v u in
+            (r, omega (arith, lower, bounds .first), omega (arith, upper, bounds .last, end), ap (words (f .place)) same ∙ s)
 
 -- ---- the fan of a read that leads from x
 module _ {w : ℕ} {op : Op} {x : Words} (fine : FanFits w op x) where

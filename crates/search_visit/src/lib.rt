@@ -69,7 +69,8 @@ pub fn after_visit(s: Visited) -> Grown
     }
 }
 
-// Visits the fan over v whose first member is `first`.
+// Visits the fan over v whose first member is `first`. The records go from one below C1 and all values to one above C2 and all values: those
+// farther out give the same words.
 fn members(
     cells: &mut [[u32; Cell::WORDS]],
     table: &[u16],
@@ -90,9 +91,9 @@ fn members(
     ensures { λ r. ⌜ FreshIn (now (cells .entry)) (now (cells .exit)) count r ⌝ }
 {
     let values = pattern::held(table, first.pattern, w);
-    let last = w + Words::LAST_TRIAL;
+    let last = pattern::last_trial(values, w);
     let mut n = count;
-    let mut y = Words::FIRST_TRIAL;
+    let mut y = pattern::first_trial(values);
     while y <= last {
         let q = pattern::fan_at(table, first.pattern, values, w, v, y);
         let member = Words {

@@ -6,7 +6,7 @@
 -- A search tries values. In it a value is a natural number: `low` stands for C1, `high w` for C2.
 use mathlib.Core.Bool.{Bool, true, false, not, cond, _&&_, _||_}
 use mathlib.Core.List.{List, [], _∷_, map}
-use Prim.Native.Nat.{ℕ, zero, suc, _+_, _*_, _-_, _<_, _≤_}
+use Prim.Native.Nat.{ℕ, zero, suc, _+_, _*_, _-_, _<_, _≤_, min, max}
 use lib.IntN.{ℤ, pos, _+ℤ_}
 use lib.ListN.{length, getD, set, drop}
 use lib.Dec.{leb, ltb, eqb}
@@ -120,6 +120,23 @@ lessOf w c d = lessMark (markOf (pos 0) w c) (markOf (pos 0) w d)
 -- the word when variable v gets the value y
 unfoldable pub assignOf : (w pattern v y : ℕ) → ℕ
 assignOf w pattern v y = wordOf w (set (valuesOf w (lanes w pattern)) v y)
+
+-- the least of n and the values, and the greatest
+unfoldable pub leastOf : ℕ → List ℕ → ℕ
+leastOf n [] = n
+leastOf n (x ∷ xs) = min x (leastOf n xs)
+
+unfoldable pub greatestOf : ℕ → List ℕ → ℕ
+greatestOf n [] = n
+greatestOf n (x ∷ xs) = max x (greatestOf n xs)
+
+-- the first and the last record that a fan is tried with: one below C1 and all values, and one above C2 and all values. Those farther out give
+-- the same words (proofs/Trials.antt)
+abbrev pub firstTrial : List ℕ → ℕ
+firstTrial values = leastOf low values - 1
+
+abbrev pub lastTrial : ℕ → List ℕ → ℕ
+lastTrial w values = suc (greatestOf (high w) values)
 
 -- 1 in lane v
 unfoldable pub unitOf : ℕ → ℕ
