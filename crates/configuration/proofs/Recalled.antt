@@ -10,14 +10,14 @@ use lib.Dec.{leb, ltb}
 use borrow.Author.Tests.{ltb-true, leb-true, lt-ltb, le-ltb, le-leb, lt-leb}
 use Rattle.graph.specs.Lists.{In}
 use Rattle.model.specs.inner.Lists.{All}
-use Rattle.outside_row.specs.Table.{IsEntry, entriesFor, keyOf, slotOf, keyAt, placeIn}
+use Rattle.outside_row.specs.inner.Table.{IsEntry, entriesFor, keyOf, slotOf, keyAt, placeIn}
 use Rattle.outside_row.proofs.Entries.{entry-eight}
 use Rattle.configuration.specs.inner.Digits.{digits, Below}
-use Rattle.configuration.specs.inner.Pattern.{Width, lane, lanes, excess, weave, recallOf, AreCodes, storeFrom, storeOf}
+use Rattle.configuration.specs.inner.Pattern.{Width, lane, lanes, excess, recallFrom, recallOf, AreCodes, storeFrom, storeOf}
 use Rattle.configuration.specs.inner.Pattern.{low, high, within}
 use Rattle.configuration.proofs.Digits.{length-digits, four-again}
 use Rattle.configuration.proofs.Ranks.{codes-below, length-codes}
-use Rattle.configuration.proofs.Stored.{excess-inside, excess-outside, InOrOut, lower, upper, in-or-out, none-stored, none-woven, excess-few, codes-storable}
+use Rattle.configuration.proofs.Stored.{excess-inside, excess-outside, InOrOut, lower, upper, in-or-out, none-stored, none-recalled, excess-few, codes-storable}
 
 -- ---- `select`
 pub select-inside : (d w a b : ℕ) → d < w → a ≡ cond (ltb d w) a b
@@ -26,7 +26,7 @@ select-inside d w a b h = rw (lt-ltb d w h)
 pub select-outside : (d w a b : ℕ) → w ≤ d → b ≡ cond (ltb d w) a b
 select-outside d w a b h = rw (le-ltb d w h)
 
--- ---- `more`, `over`, `slot`: one variable more before those that were met; `outs`, `index`, `slots`: all four
+-- ---- `more`, `excess_of`, `slot`: one variable more before those that were met; `outs`, `index`, `slots`: all four
 -- what is folded over the excess, F, one number by one, as step says
 module _ (w : ℕ) (F : List ℕ → ℕ) (step : ℕ → ℕ → ℕ) (is : (c : ℕ) (l : List ℕ) → F ((c - w) ∷ l) ≡ step c (F l)) where
   abbrev next : ℕ → ℕ → ℕ
@@ -68,7 +68,7 @@ module _ (w : ℕ) (l : List ℕ) (h : length l ≡ 4) (a b c r : ℕ) where
   unfolding slotOf
   slots-four = folded w slotOf (λ c n. suc (c - w + 8 * n)) (λ c k. refl) l h a b c r
 
--- ---- `woven`
+-- ---- `recall_from`
 abbrev pub Octal : List ℕ → Type 0
 Octal l = All (λ b. b < 8) l
 
@@ -114,16 +114,16 @@ module _ (w : ℕ) where
   code-left d k l a e = ap (λ (n : ℕ). cond (ltb d w) d (w + n)) (ap (λ (n : ℕ). n % 8) e ∙ key-head l a)
 
   module _ (d : List ℕ) (h : length d ≡ 4) (k l m n x y z u : ℕ) where
-    pub woven-four : l ≡ cond (ltb (getD d 0 0) w) k (k / 8) → m ≡ cond (ltb (getD d 1 0) w) l (l / 8) → n ≡ cond (ltb (getD d 2 0) w) m (m / 8)
+    pub recall-from-four : l ≡ cond (ltb (getD d 0 0) w) k (k / 8) → m ≡ cond (ltb (getD d 1 0) w) l (l / 8) → n ≡ cond (ltb (getD d 2 0) w) m (m / 8)
         → x ≡ cond (ltb (getD d 0 0) w) (getD d 0 0) (w + k % 8) → y ≡ cond (ltb (getD d 1 0) w) (getD d 1 0) (w + l % 8)
         → z ≡ cond (ltb (getD d 2 0) w) (getD d 2 0) (w + m % 8) → u ≡ cond (ltb (getD d 3 0) w) (getD d 3 0) (w + n % 8)
-        → (r : List ℕ) → Octal r → k ≡ keyOf r → x ∷ y ∷ z ∷ u ∷ [] ≡ weave w d r
-    unfolding weave
-    woven-four el em en ex ey ez eu r o ek =
+        → (r : List ℕ) → Octal r → k ≡ keyOf r → x ∷ y ∷ z ∷ u ∷ [] ≡ recallFrom w d r
+    unfolding recallFrom
+    recall-from-four el em en ex ey ez eu r o ek =
         ap₂ _∷_ (ex ∙ code-left d0 k r o ek)
         (ap₂ _∷_ (ey ∙ code-left d1 l r1 o1 e1)
         (ap₂ _∷_ (ez ∙ code-left d2 m r2 o2 e2) (ap₂ _∷_ (eu ∙ code-left d3 n r3 o3 e3) refl)))
-        ∙ ap (λ (t : List ℕ). weave w t r) (four-again d h)
+        ∙ ap (λ (t : List ℕ). recallFrom w t r) (four-again d h)
       where
         d0 : ℕ
         d0 = getD d 0 0
@@ -172,35 +172,35 @@ no-length (x ∷ l) e = absurd (omega arith)
 module _ (w : ℕ) (d : List ℕ) where
   pub recall-none : 0 ≡ length (excess w d) → d ≡ recallOf w d
   unfolding recallOf
-  recall-none e = sym (none-woven w d _ (no-length (excess w d) (sym e)))
+  recall-none e = sym (none-recalled w d _ (no-length (excess w d) (sym e)))
 
   pub recall-some : (v n k : ℕ) (r : List ℕ) → v ≡ length (excess w d) → n ≡ getD (excess w d) 0 0 → k ≡ keyAt v n
-      → ((l : List ℕ) → Octal l → k ≡ keyOf l → r ≡ weave w d l) → r ≡ recallOf w d
+      → ((l : List ℕ) → Octal l → k ≡ keyOf l → r ≡ recallFrom w d l) → r ≡ recallOf w d
   unfolding recallOf keyAt
   recall-some v n k r ev en ek f =
-      f (getD (entriesFor v) n []) (entry-octal v n) ek ∙ ap₂ (λ (i j : ℕ). weave w d (getD (entriesFor i) j [])) ev en
+      f (getD (entriesFor v) n []) (entry-octal v n) ek ∙ ap₂ (λ (i j : ℕ). recallFrom w d (getD (entriesFor i) j [])) ev en
 
-weave-digit : (w : ℕ) (ds l : List ℕ) (u : ℕ) → u < length ds → getD ds u 0 < w → getD (weave w ds l) u 0 ≡ getD ds u 0
-unfolding weave
-weave-digit w [] l u k h = refl
-weave-digit w (x ∷ ds) l zero k h = rw (lt-ltb x w h)
-weave-digit w (x ∷ ds) l (suc u) k h = weave-digit w ds (cond (ltb x w) l (drop 1 l)) u (omega arith) h
+recall-digit : (w : ℕ) (ds l : List ℕ) (u : ℕ) → u < length ds → getD ds u 0 < w → getD (recallFrom w ds l) u 0 ≡ getD ds u 0
+unfolding recallFrom
+recall-digit w [] l u k h = refl
+recall-digit w (x ∷ ds) l zero k h = rw (lt-ltb x w h)
+recall-digit w (x ∷ ds) l (suc u) k h = recall-digit w ds (cond (ltb x w) l (drop 1 l)) u (omega arith) h
 
-weave-below : (w : ℕ) (ds l : List ℕ) → Octal l → Below (w + 8) (weave w ds l)
-unfolding weave
-weave-below w [] l o i = omega arith
-weave-below w (d ∷ ds) l o zero = go (ltb d w) refl l o
+recall-from-below : (w : ℕ) (ds l : List ℕ) → Octal l → Below (w + 8) (recallFrom w ds l)
+unfolding recallFrom
+recall-from-below w [] l o i = omega arith
+recall-from-below w (d ∷ ds) l o zero = go (ltb d w) refl l o
   where
     go : (t : Bool) → ltb d w ≡ t → (l : List ℕ) → Octal l → cond t d (w + getD l 0 0) < w + 8
     go true e l o = omega (arith, ltb-true d w e)
     go false e [] o = omega arith
     go false e (x ∷ l) (k, o) = omega arith
-weave-below w (d ∷ ds) l o (suc i) = weave-below w ds (cond (ltb d w) l (drop 1 l)) (octal-left w d l o) i
+recall-from-below w (d ∷ ds) l o (suc i) = recall-from-below w ds (cond (ltb d w) l (drop 1 l)) (octal-left w d l o) i
 
 -- whatever the word, a code is below w + 8
 pub lanes-below : (w pattern : ℕ) → Below (w + 8) (lanes w pattern)
 unfolding recallOf
-lanes-below w pattern = weave-below w (digits lane 4 pattern) _ (entry-octal _ _)
+lanes-below w pattern = recall-from-below w (digits lane 4 pattern) _ (entry-octal _ _)
 
 module _ (w pattern : ℕ) (h : Width w) where
   module _ (d c : List ℕ) (ed : d ≡ digits lane 4 pattern) (ec : c ≡ recallOf w d) where
@@ -213,14 +213,14 @@ module _ (w pattern : ℕ) (h : Width w) where
   -- a code inside is its digit
   pub lane-inside : (u : ℕ) → u < 4 → getD (digits lane 4 pattern) u 0 < w → getD (lanes w pattern) u 0 ≡ getD (digits lane 4 pattern) u 0
   unfolding recallOf
-  lane-inside u l k = weave-digit w (digits lane 4 pattern) _ u (omega (arith, length-digits lane 4 pattern)) k
+  lane-inside u l k = recall-digit w (digits lane 4 pattern) _ u (omega (arith, length-digits lane 4 pattern)) k
 
--- ---- `shared`, `store`
-pub shared-four : (w n : ℕ) (c : List ℕ) → length c ≡ 4 → (l m k x y z u : ℕ) → l ≡ cond (ltb (getD c 0 0) w) n w → m ≡ cond (ltb (getD c 1 0) w) l w
+-- ---- `store_from`, `store`
+pub store-from-four : (w n : ℕ) (c : List ℕ) → length c ≡ 4 → (l m k x y z u : ℕ) → l ≡ cond (ltb (getD c 0 0) w) n w → m ≡ cond (ltb (getD c 1 0) w) l w
     → k ≡ cond (ltb (getD c 2 0) w) m w → x ≡ cond (ltb (getD c 0 0) w) (getD c 0 0) n → y ≡ cond (ltb (getD c 1 0) w) (getD c 1 0) l
     → z ≡ cond (ltb (getD c 2 0) w) (getD c 2 0) m → u ≡ cond (ltb (getD c 3 0) w) (getD c 3 0) k → x ∷ y ∷ z ∷ u ∷ [] ≡ storeFrom w n c
 unfolding storeFrom
-shared-four w n c h l m k x y z u el em ek ex ey ez eu = rw (ex, ey, ez, eu, ek, em, el) (ap (storeFrom w n) (four-again c h))
+store-from-four w n c h l m k x y z u el em ek ex ey ez eu = rw (ex, ey, ez, eu, ek, em, el) (ap (storeFrom w n) (four-again c h))
 
 module _ (w : ℕ) (h : Width w) (c : List ℕ) (k : AreCodes w c) where
   four : length c ≡ 4

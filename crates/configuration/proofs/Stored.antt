@@ -12,14 +12,14 @@ use lib.Dec.{ltb}
 use borrow.Author.Tests.{lt-ltb, le-ltb}
 use Rattle.graph.specs.Lists.{In}
 use Rattle.graph.proofs.Counting.{in-map}
-use Rattle.model.specs.Pattern.{Mark, inside}
+use Rattle.model.specs.Pattern.{Mark}
 use Rattle.outside.specs.Outside.{outside, ranksIn}
 use Rattle.outside.proofs.Dropped.{outside-in}
-use Rattle.outside_row.specs.Table.{rankNumber, entriesFor, placeIn}
+use Rattle.outside_row.specs.inner.Table.{rankNumber, entriesFor, placeIn}
 use Rattle.outside_row.proofs.Entries.{entries-few, no-entries}
 use Rattle.outside_row.proofs.Places.{place-holds, place-below}
 use Rattle.configuration.specs.inner.Digits.{Below}
-use Rattle.configuration.specs.inner.Pattern.{Width, lane, markOf, codesOf, excess, storeFrom, storeOf, weave, recallOf}
+use Rattle.configuration.specs.inner.Pattern.{Width, lane, markOf, codesOf, excess, storeFrom, storeOf, recallFrom, recallOf}
 use Rattle.configuration.specs.inner.Fits.{Span, real}
 use Rattle.configuration.proofs.Cases.{Lies, lies-inside, lies-above, lies-below, lies}
 use Rattle.configuration.proofs.Marks.{pattern-codes}
@@ -36,9 +36,9 @@ module _ (w c : ℕ) where
     unfolding storeFrom
     store-inside n cs = rw (lt-ltb c w h)
 
-    pub weave-inside : (ds l : List ℕ) → weave w (c ∷ ds) l ≡ c ∷ weave w ds l
-    unfolding weave
-    weave-inside ds l = rw (lt-ltb c w h)
+    pub recall-inside : (ds l : List ℕ) → recallFrom w (c ∷ ds) l ≡ c ∷ recallFrom w ds l
+    unfolding recallFrom
+    recall-inside ds l = rw (lt-ltb c w h)
 
   module _ (h : w ≤ c) where
     pub excess-outside : (cs : List ℕ) → excess w (c ∷ cs) ≡ (c - w) ∷ excess w cs
@@ -49,9 +49,9 @@ module _ (w c : ℕ) where
     unfolding storeFrom
     store-outside n cs = rw (le-ltb c w h)
 
-    pub weave-outside : (ds l : List ℕ) → weave w (c ∷ ds) l ≡ (w + getD l 0 0) ∷ weave w ds (drop 1 l)
-    unfolding weave
-    weave-outside ds l = rw (le-ltb c w h)
+    pub recall-outside : (ds l : List ℕ) → recallFrom w (c ∷ ds) l ≡ (w + getD l 0 0) ∷ recallFrom w ds (drop 1 l)
+    unfolding recallFrom
+    recall-outside ds l = rw (le-ltb c w h)
 
 pub data InOrOut (w c : ℕ) : Type 0 where
   lower : c < w → InOrOut w c
@@ -75,19 +75,19 @@ module _ (w : ℕ) where
       go (lower h) rest = store-inside w c h n cs ∙ ap (λ (l : List ℕ). c ∷ l) (rest (sym (excess-inside w c h cs) ∙ e))
       go (upper h) rest = absurd (omega (arith, ap length (sym (excess-outside w c h cs) ∙ e)))
 
-  pub none-woven : (ds l : List ℕ) → excess w ds ≡ [] → weave w ds l ≡ ds
-  unfolding weave
-  none-woven [] l e = refl
-  none-woven (d ∷ ds) l e = go (in-or-out w d) (none-woven ds l)
+  pub none-recalled : (ds l : List ℕ) → excess w ds ≡ [] → recallFrom w ds l ≡ ds
+  unfolding recallFrom
+  none-recalled [] l e = refl
+  none-recalled (d ∷ ds) l e = go (in-or-out w d) (none-recalled ds l)
     where
-      go : InOrOut w d → (excess w ds ≡ [] → weave w ds l ≡ ds) → weave w (d ∷ ds) l ≡ d ∷ ds
-      go (lower h) rest = weave-inside w d h ds l ∙ ap (λ (k : List ℕ). d ∷ k) (rest (sym (excess-inside w d h ds) ∙ e))
+      go : InOrOut w d → (excess w ds ≡ [] → recallFrom w ds l ≡ ds) → recallFrom w (d ∷ ds) l ≡ d ∷ ds
+      go (lower h) rest = recall-inside w d h ds l ∙ ap (λ (k : List ℕ). d ∷ k) (rest (sym (excess-inside w d h ds) ∙ e))
       go (upper h) rest = absurd (omega (arith, ap length (sym (excess-outside w d h ds) ∙ e)))
 
-  pub length-weave : (ds l : List ℕ) → length (weave w ds l) ≡ length ds
-  unfolding weave
-  length-weave [] l = refl
-  length-weave (d ∷ ds) l = ap suc (length-weave ds (cond (ltb d w) l (drop 1 l)))
+  pub length-recall : (ds l : List ℕ) → length (recallFrom w ds l) ≡ length ds
+  unfolding recallFrom
+  length-recall [] l = refl
+  length-recall (d ∷ ds) l = ap suc (length-recall ds (cond (ltb d w) l (drop 1 l)))
 
   pub length-store : (n : ℕ) (cs : List ℕ) → length (storeFrom w n cs) ≡ length cs
   unfolding storeFrom
@@ -129,21 +129,21 @@ module _ (w : ℕ) where
           ∙ ap (λ (l : List ℕ). getD l 0 0) (excess-outside w n k (storeFrom w w cs)))
 
   -- digits and the excess of the codes give the codes
-  woven : (n : ℕ) → w ≤ n → (cs : List ℕ) → weave w (storeFrom w n cs) (excess w cs) ≡ cs
-  unfolding storeFrom weave
-  woven n k [] = refl
-  woven n k (c ∷ cs) = go (in-or-out w c) (woven n k cs) (woven w (omega arith) cs)
+  stored-back : (n : ℕ) → w ≤ n → (cs : List ℕ) → recallFrom w (storeFrom w n cs) (excess w cs) ≡ cs
+  unfolding storeFrom recallFrom
+  stored-back n k [] = refl
+  stored-back n k (c ∷ cs) = go (in-or-out w c) (stored-back n k cs) (stored-back w (omega arith) cs)
     where
       Back : ℕ → List ℕ → Type 0
-      Back m l = weave w (storeFrom w m l) (excess w l) ≡ l
+      Back m l = recallFrom w (storeFrom w m l) (excess w l) ≡ l
 
       go : InOrOut w c → Back n cs → Back w cs → Back n (c ∷ cs)
       go (lower h) p q =
-          ap₂ (weave w) (store-inside w c h n cs) (excess-inside w c h cs) ∙ weave-inside w c h (storeFrom w n cs) (excess w cs)
+          ap₂ (recallFrom w) (store-inside w c h n cs) (excess-inside w c h cs) ∙ recall-inside w c h (storeFrom w n cs) (excess w cs)
           ∙ ap (λ (l : List ℕ). c ∷ l) p
       go (upper h) p q =
           let e : w + (c - w) ≡ c = omega arith in
-          ap₂ (weave w) (store-outside w c h n cs) (excess-outside w c h cs) ∙ weave-outside w n k (storeFrom w w cs) ((c - w) ∷ excess w cs)
+          ap₂ (recallFrom w) (store-outside w c h n cs) (excess-outside w c h cs) ∙ recall-outside w n k (storeFrom w w cs) ((c - w) ∷ excess w cs)
           ∙ ap₂ _∷_ e q
 
   -- codes whose ranks are an entry of the table
@@ -152,7 +152,7 @@ module _ (w : ℕ) where
 
   pub recall-store : (cs : List ℕ) → Storable cs → recallOf w (storeOf w cs) ≡ cs
   unfolding recallOf storeOf
-  recall-store cs h = ap (weave w ds) found ∙ woven n (omega arith) cs
+  recall-store cs h = ap (recallFrom w ds) found ∙ stored-back n (omega arith) cs
     where
       r : List ℕ
       r = excess w cs

@@ -16,7 +16,7 @@ use Rattle.model.specs.inner.Lists.{All}
 use Rattle.model.proofs.Integers.{and-in, and-out}
 use Rattle.model.proofs.Lists.{all-in, all-map}
 use Rattle.model.proofs.Ranks.{equal-in, equal-out, length-pattern}
-use Rattle.outside.specs.Rows.{rows}
+use Rattle.outside.specs.inner.Rows.{rows}
 use Rattle.outside.specs.Outside.{IsOutside, signedRank, ranksOf, same, isOwn, eight, outside}
 use Rattle.outside.proofs.Rows.{in-rows, keep-in, in-keep}
 use Rattle.outside.proofs.Listed.{outside-once, outside-width, outside-eight}

@@ -14,7 +14,7 @@ use Rattle.model.specs.Pattern.{Mark, inside, above, below, equal, among, diffe
 use Rattle.model.specs.inner.Integers.{Inside}
 use Rattle.model.proofs.Integers.{true-in, false-out, and-in, or-in, or-left, or-right}
 use Rattle.model.proofs.Ranks.{equal-in}
-use Rattle.outside.specs.Rows.{keep}
+use Rattle.outside.specs.inner.Rows.{keep}
 use Rattle.outside.specs.Outside.{signedRank, outside, ranksIn}
 use Rattle.outside.proofs.Rows.{keep-in, length-keep}
 use Rattle.outside.proofs.Census.{pattern-outside}

@@ -12,7 +12,7 @@ use Rattle.model.specs.Pattern.{equal, among, different, mark, pattern}
 use Rattle.model.specs.inner.Lists.{All}
 use Rattle.model.proofs.Integers.{and-in, or-left, or-right}
 use Rattle.model.proofs.Ranks.{equal-out}
-use Rattle.outside.specs.Rows.{rows, keep, led, bind}
+use Rattle.outside.specs.inner.Rows.{rows, keep, led, bind}
 use Rattle.outside.specs.Outside.{before, allPass, rising, ranksOf, same, isOwn, eight, outside}
 use Rattle.outside.proofs.Rows.{rows-length, rows-all, once-rows, keep-in, once-keep}
 

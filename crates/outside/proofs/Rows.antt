@@ -12,7 +12,7 @@ use Rattle.graph.proofs.Counting.{in-map, map-in, once-map}
 use Rattle.model.specs.inner.Lists.{All}
 use Rattle.model.proofs.Lists.{in-left, in-right, in-either}
 use Rattle.model.proofs.Integers.{true-in}
-use Rattle.outside.specs.Rows.{bind, led, rows, keep}
+use Rattle.outside.specs.inner.Rows.{bind, led, rows, keep}
 
 module _ {A : Type 0} where
   pub all-each : (P : A → Type 0) (l : List A) → ((x : A) → In x l → P x) → All P l

@@ -1,2 +1,2 @@
-pub mod Rows
 pub mod Outside
+pub mod inner

@@ -11,7 +11,7 @@ use lib.ListN.{length}
 use lib.Dec.{T}
 use Rattle.graph.specs.Lists.{In}
 use Rattle.model.specs.Pattern.{Mark, inside, above, below, equal, pattern}
-use Rattle.outside.specs.Rows.{rows, keep}
+use Rattle.outside.specs.inner.Rows.{rows, keep}
 
 -- the signed rank that a mark says; 0 inside
 abbrev pub signedRank : Mark → ℤ

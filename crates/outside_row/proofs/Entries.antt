@@ -12,10 +12,10 @@ use Rattle.graph.proofs.Counting.{map-in, once-map}
 use Rattle.model.specs.Pattern.{pattern}
 use Rattle.model.specs.inner.Lists.{All}
 use Rattle.model.proofs.Lists.{all-in, all-map}
-use Rattle.outside.specs.Rows.{rows, keep}
+use Rattle.outside.specs.inner.Rows.{rows, keep}
 use Rattle.outside.specs.Outside.{ranksOf, same, isOwn, eight, outside}
 use Rattle.outside.proofs.Listed.{outside-numbers, outside-once, outside-width, outside-eight}
-use Rattle.outside_row.specs.Table.{rankNumber, entriesFor, slotOf, HasEntry}
+use Rattle.outside_row.specs.inner.Table.{rankNumber, entriesFor, slotOf, HasEntry}
 use Rattle.outside_row.proofs.Keys.{slot-tells}
 use Rattle.outside_row.proofs.Places.{in-getD, once-place}
 

@@ -9,7 +9,7 @@ use lib.ListN.{length, getD, set, length-set}
 use lib.Seq.{getD-set-same, getD-set-other}
 use lib.Dec.{ltb, ltb→lt, nltb→le, not-T}
 use Rattle.outside.proofs.Listed.{outside-numbers}
-use Rattle.outside_row.specs.Table.{entriesFor, keyOf, slotOf, firstOf, HasEntry, IsTable}
+use Rattle.outside_row.specs.inner.Table.{entriesFor, keyOf, slotOf, firstOf, HasEntry, IsTable}
 use Rattle.outside_row.specs.inner.Filling.{LoadedTo, onesOf}
 use Rattle.outside_row.proofs.Keys.{key-below, slot-below, slot-key}
 use Rattle.outside_row.proofs.Entries.{entries-length, listed-eight, listed-width, slot-once}

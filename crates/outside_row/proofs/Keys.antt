@@ -5,7 +5,7 @@ use Prim.Native.Nat.{ℕ, zero, suc, _+_, _*_, _<_, _≤_}
 use native.Mathlib.Omega.{arith}
 use lib.ListN.{length, getD, drop, drop-of-length-le}
 use Rattle.model.specs.inner.Lists.{All}
-use Rattle.outside_row.specs.Table.{keyOf, slotOf}
+use Rattle.outside_row.specs.inner.Table.{keyOf, slotOf}
 use Rattle.outside_row.specs.inner.Filling.{onesOf}
 
 pub key-below : (l : List ℕ) → All (λ b. b < 8) l → length l ≤ 4 → keyOf l < 4096

@@ -4,7 +4,7 @@ use mathlib.Core.List.{List, []}
 use Prim.Native.Nat.{ℕ, _+_, _-_, _<_, _≤_}
 use native.Mathlib.Omega.{arith}
 use lib.ListN.{length, getD, List·getD-eq-default}
-use Rattle.outside_row.specs.Table.{entriesFor, IsEntry, keyOf, slotOf, firstOf, HasEntry, IsTable, keyAt, placeIn}
+use Rattle.outside_row.specs.inner.Table.{entriesFor, IsEntry, keyOf, slotOf, firstOf, HasEntry, IsTable, keyAt, placeIn}
 use Rattle.outside_row.proofs.Places.{place-holds, place-below}
 use Rattle.outside_row.proofs.Filling.{first-count}
 

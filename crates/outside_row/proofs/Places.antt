@@ -9,7 +9,7 @@ use lib.ListN.{length, getD}
 use lib.Dec.{T, eqb, eqb→eq, eqb-refl}
 use Rattle.graph.specs.Lists.{In, Once}
 use Rattle.model.proofs.Integers.{true-in, and-in, and-out}
-use Rattle.outside_row.specs.Table.{alike, placeIn}
+use Rattle.outside_row.specs.inner.Table.{alike, placeIn}
 
 alike-in : (l m : List ℕ) → T (alike l m) → l ≡ m
 unfolding alike

@@ -14,10 +14,10 @@ use mir.Syntax.{w8, w64}
 use mir.Val.{toZ, ofZ, SFits, Fits}
 use Rattle.graph.specs.Lists.{In}
 use Rattle.model.proofs.Lists.{all-in, getD-map}
-use Rattle.outside.specs.Rows.{bind, flat}
+use Rattle.outside.specs.inner.Rows.{bind, flat}
 use Rattle.outside.specs.Outside.{eight, outside}
 use Rattle.outside.proofs.Listed.{outside-width, outside-eight}
-use Rattle.outside_row.specs.Table.{rankNumber, entriesFor, HasEntry}
+use Rattle.outside_row.specs.inner.Table.{rankNumber, entriesFor, HasEntry}
 use Rattle.outside_row.proofs.Places.{in-getD}
 use Rattle.outside_row.proofs.Entries.{entries-length, entries-few}
 

@@ -1,4 +1,4 @@
-// The tables of outside patterns (document 02, T-06), and the row in which a search looks them up (specs/Table.antt).
+// The tables of outside patterns (document 02, T-06), and the row in which a search looks them up (specs/inner/Table.antt).
 //
 // A constant is copied wherever it is read, so the row is made once for a search and lent.
 mod tables; // tables.rt: the constants, as the program `tables` prints them
@@ -8,12 +8,12 @@ ghost use mathlib.Core.List.{List, []};
 ghost use Prim.Native.Nat.{ℕ, _+_, _≤_, _<_};
 ghost use lib.ListN.{length, getD};
 ghost use Rattle.graph.specs.Lists.{In};
-ghost use Rattle.outside.specs.Rows.{flat};
+ghost use Rattle.outside.specs.inner.Rows.{flat};
 ghost use Rattle.outside.specs.Outside.{eight, outside};
-ghost use Rattle.outside_row.specs.Table.{rankNumber, entriesFor, IsEntry, keyOf, slotOf, firstOf, HasEntry, IsTable, keyAt, placeIn};
+ghost use Rattle.outside_row.specs.inner.Table.{rankNumber, entriesFor, IsEntry, keyOf, slotOf, firstOf, HasEntry, IsTable, keyAt, placeIn};
 ghost use Rattle.outside_row.specs.inner.Filling.{LoadedTo, onesOf};
 
-// The sizes of the row (specs/Table.antt).
+// The sizes of the row (specs/inner/Table.antt).
 pub struct Table;
 
 impl Table {

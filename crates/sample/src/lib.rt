@@ -7,7 +7,7 @@ ghost use lib.ListN.{length, getD};
 ghost use Rattle.model.specs.Language.{Flow as FlowOf};
 ghost use Rattle.model.specs.Machine.{exitIf};
 ghost use Rattle.configuration.specs.inner.Place.{words};
-ghost use Rattle.outside_row.specs.Table.{IsTable};
+ghost use Rattle.outside_row.specs.inner.Table.{IsTable};
 ghost use Rattle.configuration.specs.inner.Pattern.{Width};
 ghost use Rattle.configuration.specs.inner.Fits.{real};
 ghost use Rattle.sample_row.specs.inner.Moves.{Movable};

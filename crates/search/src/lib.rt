@@ -2,7 +2,7 @@
 ghost use mathlib.Core.Path.{_≡_};
 ghost use Prim.Native.Nat.{_<_};
 ghost use lib.ListN.{getD};
-ghost use Rattle.outside_row.specs.Table.{IsTable};
+ghost use Rattle.outside_row.specs.inner.Table.{IsTable};
 ghost use Rattle.configuration.specs.inner.Step.{startOf};
 ghost use Rattle.cells.specs.Cells.{mostCells, cellsOf};
 ghost use Rattle.cells.specs.inner.Columns.{distanceField, column, columnsOf};

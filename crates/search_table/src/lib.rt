@@ -9,7 +9,7 @@ ghost use lib.ListN.{length, getD};
 ghost use lib.Dec.{eqb};
 ghost use Rattle.model.specs.Machine.{p-exit, m-exit, exitIf};
 ghost use Rattle.flow.specs.Limits.{maxInstructions};
-ghost use Rattle.outside_row.specs.Table.{IsTable};
+ghost use Rattle.outside_row.specs.inner.Table.{IsTable};
 ghost use Rattle.configuration.specs.inner.Pattern.{Width};
 ghost use Rattle.configuration.specs.inner.Place.{atOf};
 ghost use Rattle.configuration.specs.inner.Step.{takesOf};

@@ -5,7 +5,7 @@
 // and a fan is walked once: a search is linear in the configurations.
 ghost use mathlib.Core.Path.{_≡_};
 ghost use Prim.Native.Nat.{_<_};
-ghost use Rattle.outside_row.specs.Table.{IsTable};
+ghost use Rattle.outside_row.specs.inner.Table.{IsTable};
 ghost use Rattle.configuration.specs.inner.Pattern.{Width, low, assignOf};
 ghost use Rattle.cells.specs.inner.Columns.{columnsOf};
 ghost use Rattle.cells.specs.inner.Entries.{FilledIn};

@@ -1,6 +1,6 @@
 -- The pattern word (document 01, "Distances and configurations"; document 02, T-06). lo is C1, and w says how many whole numbers there are from
 -- C1 to C2. A pattern is a code for each of four variables: a code below w is a value, counted from lo; then come ranks 1 to 4 above, then
--- ranks 1 to 4 below. A word stores the codes as four digits of 16 bits: a code below w as it is; of those outside the first as w and the
+-- ranks 1 to 4 below. A word stores the codes as four digits of 16 bits: a code below w as it is; of those outside the first as w plus the
 -- index of their ranks in the table of outside patterns for so many variables, the others as w.
 --
 -- A search tries values. In it a value is a natural number: `low` stands for C1, `high w` for C2.
@@ -12,7 +12,7 @@ use lib.ListN.{length, getD, set, drop}
 use lib.Dec.{leb, ltb, eqb}
 use Rattle.model.specs.Pattern.{Mark, above, inside, below}
 use Rattle.model.specs.inner.Marks.{lessMark}
-use Rattle.outside_row.specs.Table.{entriesFor, placeIn}
+use Rattle.outside_row.specs.inner.Table.{entriesFor, placeIn}
 use Rattle.flow.specs.Limits.{maxVariables}
 use Rattle.configuration.specs.inner.Digits.{digits, undigits}
 use mathlib.Core.Path.{_≡_}
@@ -47,14 +47,14 @@ unfoldable pub storeOf : (w : ℕ) → List ℕ → List ℕ
 storeOf w codes = storeFrom w (w + placeIn (entriesFor (length (excess w codes))) (excess w codes)) codes
 
 -- the codes that digits store; an entry's ranks are taken one by one
-unfoldable pub weave : (w : ℕ) → (digits entry : List ℕ) → List ℕ
-weave w [] l = []
-weave w (d ∷ ds) l = cond (ltb d w) d (w + getD l 0 0) ∷ weave w ds (cond (ltb d w) l (drop 1 l))
+unfoldable pub recallFrom : (w : ℕ) → (digits entry : List ℕ) → List ℕ
+recallFrom w [] l = []
+recallFrom w (d ∷ ds) l = cond (ltb d w) d (w + getD l 0 0) ∷ recallFrom w ds (cond (ltb d w) l (drop 1 l))
 
 unfoldable pub recallOf : (w : ℕ) → List ℕ → List ℕ
-recallOf w ds = weave w ds (getD (entriesFor (length (excess w ds))) (getD (excess w ds) 0 0) [])
+recallOf w ds = recallFrom w ds (getD (entriesFor (length (excess w ds))) (getD (excess w ds) 0 0) [])
 
--- the codes of a pattern word
+-- the codes that the lanes of a pattern word store
 abbrev pub lanes : (w pattern : ℕ) → List ℕ
 lanes w pattern = recallOf w (digits lane maxVariables pattern)
 

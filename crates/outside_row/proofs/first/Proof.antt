@@ -2,7 +2,7 @@
 use mathlib.Core.Path.{_≡_, refl, sym, ap}
 use Prim.Native.Nat.{ℕ, zero, suc, _<_, _≤_}
 use native.Mathlib.Omega.{arith}
-use Rattle.outside_row.specs.Table.{firstOf}
+use Rattle.outside_row.specs.inner.Table.{firstOf}
 use Rattle.outside_row.proofs.first.Statement.{statement}
 use Rattle.outside_row.proofs.first.Tie as tie
 

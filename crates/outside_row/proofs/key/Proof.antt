@@ -6,7 +6,7 @@ use native.Mathlib.Omega.{arith}
 use borrow.Author.Needs.{needs}
 use denote.Ref.{now}
 use lib.ListN.{getD, drop, length-drop}
-use Rattle.outside_row.specs.Table.{entriesFor, keyOf, HasEntry}
+use Rattle.outside_row.specs.inner.Table.{entriesFor, keyOf, HasEntry}
 use Rattle.outside_row.proofs.Keys.{key-below, key-end, key-more, all-drop}
 use Rattle.outside_row.proofs.Entries.{listed-eight, listed-width}
 use Rattle.outside_row.proofs.Ranks.{product-few, read-below, read-eight, read-number}

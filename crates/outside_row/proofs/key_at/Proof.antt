@@ -5,7 +5,7 @@ use borrow.Author.Needs.{needs}
 use denote.Ref.{now}
 use Rattle.outside_row.proofs.Filling.{listed-within}
 use Rattle.outside_row.proofs.Looked.{count-is, is-listed, key-is, key-past}
-use Rattle.outside_row.specs.Table.{HasEntry}
+use Rattle.outside_row.specs.inner.Table.{HasEntry}
 use Rattle.outside_row.proofs.key_at.Statement.{statement}
 use Rattle.outside_row.proofs.key_at.Tie as tie
 

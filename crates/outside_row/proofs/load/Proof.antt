@@ -6,7 +6,7 @@ use native.Mathlib.Omega.{arith}
 use borrow.Author.Needs.{needs}
 use denote.Ref.{now}
 use lib.ListN.{getD, length-set}
-use Rattle.outside_row.specs.Table.{entriesFor, slotOf, firstOf, HasEntry}
+use Rattle.outside_row.specs.inner.Table.{entriesFor, slotOf, firstOf, HasEntry}
 use Rattle.outside_row.specs.inner.Filling.{LoadedTo}
 use Rattle.outside_row.proofs.Filling.{listed-within, listed-key, listed-slot, slot-is, fill-next}
 use Rattle.outside_row.proofs.Looked.{count-is, is-listed}

@@ -1,7 +1,7 @@
 -- `outside_row::two` meets its contract: the constant is the list, computed.
 use mathlib.Core.Path.{refl}
 use Rattle.model.specs.Pattern.{among, different, mark, pattern}
-use Rattle.outside.specs.Rows.{rows, keep, led, bind, flat}
+use Rattle.outside.specs.inner.Rows.{rows, keep, led, bind, flat}
 use Rattle.outside.specs.Outside.{ranksOf, same, isOwn, eight, outside}
 use Rattle.outside_row.proofs.two.Statement.{statement}
 use Rattle.outside_row.proofs.two.Tie as tie

@@ -3,7 +3,7 @@ use mathlib.Core.Path.{_≡_}
 use mathlib.Core.List.{List, []}
 use Prim.Native.Nat.{ℕ, zero, suc, _+_, _*_, _<_}
 use lib.ListN.{length, getD}
-use Rattle.outside_row.specs.Table.{entriesFor, keyOf, slotOf, firstOf, HasEntry}
+use Rattle.outside_row.specs.inner.Table.{entriesFor, keyOf, slotOf, firstOf, HasEntry}
 
 -- the entries whose keys stand before place `at` are in the row
 pub record LoadedTo (at : ℕ) (row : List ℕ) : Type 0 where

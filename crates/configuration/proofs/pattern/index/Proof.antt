@@ -6,8 +6,8 @@ use Rattle.configuration.proofs.pattern.index.Tie as tie
 
 returns : tie.Need-returns
 returns c =
-    recalled.index-four _ _ (search needs) _ _ _ _ (c .before .before .before .over .ensures) (c .before .before .over2 .ensures) (c .before .over3 .ensures)
-    (c .over4 .ensures)
+    recalled.index-four _ _ (search needs) _ _ _ _ (c .before .before .before .excess-of .ensures) (c .before .before .excess-of2 .ensures) (c .before .excess-of3 .ensures)
+    (c .excess-of4 .ensures)
 
 pub index-spec : {M : Type 1} → statement M
 index-spec = tie.close (tie.spec (λ c. search needs) (λ c κs. search needs) (λ c. search needs) (λ c κs. search needs) (λ c. search needs) (λ c κs. search needs) (λ c. search needs) (λ c κs. search needs) returns)

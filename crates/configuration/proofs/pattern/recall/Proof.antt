@@ -11,7 +11,7 @@ returns c = recalled.recall-none _ _ (omega (arith, c .before .outs .ensures .0)
 returns-2 : tie.Need-returns-2
 returns-2 c =
     recalled.recall-some _ _ _ _ _ _ (c .before .before .before .before .outs .ensures .0) (c .before .before .index .ensures)
-    (c .before .key-at .ensures) (c .woven .ensures)
+    (c .before .key-at .ensures) (c .recall-from .ensures)
 
 pub recall-spec : {M : Type 1} → statement M
 recall-spec = tie.close (tie.spec (λ c κs. search needs) returns (λ c κs. search needs) (λ c κs. search needs) (λ c κs. search needs) returns-2)

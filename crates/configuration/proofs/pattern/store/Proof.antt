@@ -18,7 +18,7 @@ returns-2 c =
     let s = c .before .before .before .slots .ensures in
     let a = c .before .before .before .before .before .pre .1 in
     recalled.store-some _ (a .0) _ (a .1) _ _
-    (c .before .index-at .ensures .1 _ (recalled.store-entry _ (a .0) _ (a .1) _ (s .0) (λ e. omega (arith, e))) (s .0)) (c .shared .ensures)
+    (c .before .index-at .ensures .1 _ (recalled.store-entry _ (a .0) _ (a .1) _ (s .0) (λ e. omega (arith, e))) (s .0)) (c .store-from .ensures)
 
 pub store-spec : {M : Type 1} → statement M
 store-spec = tie.close (tie.spec slots-requires returns (λ c κs. search needs) (λ c. search needs) (λ c κs. search needs) returns-2)

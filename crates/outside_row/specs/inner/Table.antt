@@ -61,13 +61,13 @@ pub record IsTable (row : List ℕ) : Type 0 where
 unfoldable pub keyAt : (v n : ℕ) → ℕ
 keyAt v n = keyOf (getD (entriesFor v) n [])
 
--- the index of an entry: the first place at which it stands
 unfoldable pub alike : List ℕ → List ℕ → Bool
 alike [] [] = true
 alike [] (y ∷ s) = false
 alike (x ∷ r) [] = false
 alike (x ∷ r) (y ∷ s) = eqb x y && alike r s
 
+-- the index of an entry: the first place at which it stands
 unfoldable pub placeIn : List (List ℕ) → List ℕ → ℕ
 placeIn [] r = 0
 placeIn (s ∷ t) r = cond (alike s r) 0 (suc (placeIn t r))
