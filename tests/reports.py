@@ -555,6 +555,42 @@ for name, lines in [("9999", ["not under,2,9999", "not over,9999,2"]), ("minus-9
          *each_two(3)))
 
 
+# ---- every outside pattern: all variables outside C1 to C2 form 2, 8, 44 and 308 patterns for one to four of them (T-06)
+
+def kept_outside(v, low, high, back):
+    """A record to each variable in turn: from one above `high` or below `low` the run goes on, with another it stays at the test.
+    After the last variable it goes to `back`."""
+    lines = []
+    for x in range(1, v + 1):
+        on = 3 * x + 1 if x < v else back
+        lines += [f"read,1,{x},+,end", f"over,{high},{x},{on},+", f"under,{x},{low},{on},{3 * x}"]
+    return flow(f"1,0,{v}", *lines, "end: stop")
+
+
+# a record to each variable, from one tape, from two in turn that both lead on at their ends, and from three; 0 alone or more numbers
+for v, name in enumerate(("one", "two", "three", "four"), 1):
+    case("outside", name, patient(f"1,0,{v}", *(f"read,1,{x}" for x in range(1, v + 1))))
+case("outside", "four-of-two-tapes", flow("2,0,4", "read,1,2,+,+", "read,2,4,+,+", "read,1,1,+,+", "read,2,3,+,+", "end: stop", *unreached(-2)))
+case("outside", "four-of-three-tapes", patient("3,0,4", "read,3,4", "read,1,3", "read,2,2", "read,3,1", constants=(3,)))
+# all patterns of four are compared: rising, falling, equal
+case("outside", "four-compared", flow("1,0,4", "read,1,1,+,end", "read,1,2,+,end", "read,1,3,+,end", "read,1,4,+,end",
+     "less,1,2,+,other", "less,2,3,+,end", "less,3,4,+,end", "over,0,1,end,+", "under,4,-1,end,end",
+     "other: less,2,1,+,equal", "less,4,2,+,end", "less,3,4,+,end", "under,1,-1,end,+", "over,0,3,end,end",
+     "equal: less,1,3,end,+", "less,3,1,end,+", "less,1,4,end,+", "less,4,1,end,+", "over,0,1,end,+", "under,1,-1,end,end", "end: stop"))
+# each variable is copied to each other one: nine times three values are left, then two
+case("outside", "four-copied", patient("1,0,4", "read,1,1", "read,1,2", "read,1,3", "read,1,4", "copy,1,2", "copy,3,1", "copy,4,3", "copy,2,4",
+     "copy,3,2", "copy,1,3", "copy,4,1", "copy,3,4", "copy,2,3", "copy,2,1", "copy,4,2", "copy,1,4", "set,1,2", "set,-1,1"))
+# the variables are read again and again: from every pattern to every other, and from outside to outside
+RING = ["again: read,1,1,+,end", "read,1,2,+,end", "read,1,3,+,end", "read,1,4,again,end", "end: stop"]
+case("outside", "four-in-a-ring", flow("1,0,4", *RING))
+case("outside", "four-kept-outside", kept_outside(4, 0, 0, 1))
+# constants farther apart, for which 4,096 cells are too few
+case("wide-outside", "two-kept-outside", kept_outside(2, 0, 9999, "end"))
+case("wide-outside", "three-kept-outside", kept_outside(3, -2971, 0, "end"))
+case("wide-outside", "four-kept-outside", kept_outside(4, -293, 293, "end"))
+case("wide-outside", "four-in-a-ring", flow("1,0,4", *RING, *unreached(-3, 4)))
+
+
 # ---- the reports, and the searches held to each other
 
 class Found:
@@ -750,6 +786,53 @@ BY_HAND = {
                              "8,p,none 8,m,8 9,p,9 9,m,none 10,p,10 10,m,none "
                              "11,p,none 11,m,11 12,p,none 12,m,12 13,p,13 13,m,none "
                              "14,p,none 14,m,14 15,p,none 15,m,15 16,p,none 16,m,16",
+    # Every outside pattern. For w numbers from C1 to C2 there are w + 2, w * w + 4 * w + 8, w^3 + 6 * w^2 + 24 * w + 44 and w^4 + 8 * w^3 +
+    # 48 * w^2 + 176 * w + 308 patterns of one to four variables; for 0 alone 3, 13, 75, 541. At the read of the next variable stand all
+    # patterns of those before it, at `stop` all patterns, and after the end of the tape those with 0 in the last variable.
+    # 1 + 3 + 1
+    "outside/one": "report,2,5 1,p,1 1,m,1",
+    # 1 + 3 + 13 + 3
+    "outside/two": "report,3,20 1,p,1 1,m,1 2,p,2 2,m,2",
+    # 1 + 3 + 13 + 75 + 13
+    "outside/three": "report,4,105 1,p,1 1,m,1 2,p,2 2,m,2 3,p,3 3,m,3",
+    # 1 + 3 + 13 + 75 + 541 + 75
+    "outside/four": "report,5,708 1,p,1 1,m,1 2,p,2 2,m,2 3,p,3 3,m,3 4,p,4 4,m,4",
+    # -2 to 0: w = 3; 5, 29, 197, 1,565. At each place the sets of ended tapes are none, tape 1, tape 2, both. A variable that was due
+    # after the end of its tape is 0. 1; 5, 1; 29, 5, 5, 1; 197, 29, 29, 5; 1,565, 197, 197, 29
+    "outside/four-of-two-tapes": "report,6,2295 1,p,1 1,m,1 2,p,2 2,m,2 3,p,3 3,m,3 4,p,4 4,m,4",
+    # 0 to 3: w = 4; 6, 40, 300, 2,548. At `stop` after the end of tape 3 300, and one of these from the first read; of tape 1 6, of tape 2 40.
+    # 1 + 6 + 40 + 300 + 2,548 + 300 + 6 + 40
+    "outside/four-of-three-tapes": "report,6,3241 1,p,1 1,m,1 2,p,2 2,m,2 3,p,3 3,m,3 4,p,4 4,m,4",
+    # -1 to 0: w = 2; 4, 20, 124, 932. Two variables are equal in 124 of the 932, and one is less than the other in half of the rest, 404.
+    # Three are in one order in (932 - 3 * 124 + 2 * 20) / 6 = 100, four in 5 + 2 * 4 + 3 = 16: none, one or two are inside, and the rest
+    # part into those below and above. One of the 16 is all above, one all below. With two equal 124, 52 less, 72 not; with three equal
+    # 20, 8 less, 12 not; with four equal 4.
+    # 1 + 4 + 20 + 124; 932, 404, 100, 16, 15; 528, 404, 100, 16, 15; 124, 72, 20, 12, 4, 3; at `stop` 932 and, after the end, 124
+    "outside/four-compared": "report,21,3970 1,p,1 1,m,1 2,p,2 2,m,2 3,p,3 3,m,3 4,p,4 4,m,4 "
+                             "5,p,5 5,m,5 6,p,6 6,m,6 7,p,7 7,m,7 8,p,8 8,m,8 9,p,9 9,m,9 "
+                             "10,p,6 10,m,6 11,p,7 11,m,7 12,p,8 12,m,8 13,p,9 13,m,9 14,p,10 14,m,10 "
+                             "15,p,7 15,m,7 16,p,8 16,m,8 17,p,9 17,m,9 18,p,10 18,m,10 19,p,11 19,m,11 20,p,12 20,m,12",
+    # -1 to 1: w = 3. At the first copy 1,565; at the nine after it three values, 197; at the last two copies and the first `set` two
+    # values, 29; then one, 5, and 5 at `stop`; after the end 197. 1 + 5 + 29 + 197 + 1,565 + 9 * 197 + 3 * 29 + 5 + 5 + 197
+    "outside/four-copied": "report,19,3864 1,p,1 1,m,1 2,p,2 2,m,2 3,p,3 3,m,3 4,p,4 4,m,4",
+    # all 541 at each of four reads and, after the end, at `stop`
+    "outside/four-in-a-ring": "report,5,2705 1,p,1 1,m,1 2,p,2 2,m,2 3,p,3 3,m,3 4,p,4 4,m,4",
+    # All outside are 308; with 0 in the variables that are not read yet 1, 2, 8, 44 at the four reads. At `over` stand w for each pattern of
+    # the other variables, with a number inside, and all outside: 44 * w + 308, and before all are read w + 2, 2 * w + 8, 8 * w + 44. At
+    # `under` as many with a number inside, and half as many outside, those with the variable below. w = 1.
+    # 4 * 308 + 55; 4 * 352 + 3 + 10 + 52; 4 * 198 + 2 + 6 + 30; at `stop`, after the end, 308 + 55
+    "outside/four-kept-outside": "report,13,3953 1,p,1 1,m,1 2,p,2 2,m,2 3,p,3 3,m,3 4,p,3 4,m,3 5,p,4 5,m,4 6,p,5 6,m,5 "
+                                 "7,p,5 7,m,5 8,p,6 8,m,6 9,p,7 9,m,7 10,p,7 10,m,7 11,p,8 11,m,8 12,p,9 12,m,9",
+    # 0 to 9999: w = 10,000. At the reads 1, 2; at `over` w + 2, 2 * w + 8; at `under` w + 1, 2 * w + 4; at `stop` 8 and, after the end, 3
+    "wide-outside/two-kept-outside": "report,7,60029 1,p,1 1,m,1 2,p,2 2,m,2 3,p,3 3,m,3 4,p,3 4,m,3 5,p,4 5,m,4 6,p,5 6,m,5",
+    # -2971 to 0: w = 2,972. 11; at `over` 11 * w + 54; at `under` 11 * w + 27; 44 + 11
+    "wide-outside/three-kept-outside": "report,10,65531 1,p,1 1,m,1 2,p,2 2,m,2 3,p,3 3,m,3 4,p,3 4,m,3 5,p,4 5,m,4 6,p,5 6,m,5 "
+                                       "7,p,5 7,m,5 8,p,6 8,m,6 9,p,7 9,m,7",
+    # -293 to 293: w = 587. 55; at `over` 55 * w + 362; at `under` 55 * w + 181; 308 + 55
+    "wide-outside/four-kept-outside": "report,13,65531 1,p,1 1,m,1 2,p,2 2,m,2 3,p,3 3,m,3 4,p,3 4,m,3 5,p,4 5,m,4 6,p,5 6,m,5 "
+                                      "7,p,5 7,m,5 8,p,6 8,m,6 9,p,7 9,m,7 10,p,7 10,m,7 11,p,8 11,m,8 12,p,9 12,m,9",
+    # -3 to 4: w = 8; 4,096 + 4,096 + 3,072 + 1,408 + 308 = 12,980, five times
+    "wide-outside/four-in-a-ring": "report,7,64900 1,p,1 1,m,1 2,p,2 2,m,2 3,p,3 3,m,3 4,p,4 4,m,4",
 }
 
 
