@@ -2,16 +2,15 @@
 use mathlib.Core.Path.{_≡_, refl, sym, ap, ap₂, _∙_, subst}
 use mathlib.Core.Bool.{Bool, true, false, cond, _&&_}
 use mathlib.Core.List.{List, [], _∷_}
-use mathlib.Core.Logic.{inl, inr}
 use Prim.Native.Nat.{ℕ, zero, suc, _+_, _*_, _-_, _/_, _%_, _<_, _≤_}
 use native.Mathlib.Omega.{arith}
 use lib.ListN.{length, getD, drop}
 use lib.Dec.{leb, ltb}
 use borrow.Author.Tests.{ltb-true, leb-true, lt-ltb, le-ltb, le-leb, lt-leb}
 use Rattle.graph.specs.Lists.{In}
-use Rattle.model.specs.inner.Lists.{All}
 use Rattle.outside_row.specs.inner.Table.{IsEntry, entriesFor, keyOf, slotOf, keyAt, placeIn}
-use Rattle.outside_row.proofs.Entries.{entry-eight}
+use Rattle.outside_row.proofs.Keys.{Octal, key-head, key-rest}
+use Rattle.outside_row.proofs.Entries.{entry-octal}
 use Rattle.configuration.specs.inner.Digits.{digits, Below}
 use Rattle.configuration.specs.inner.Pattern.{Width, lane, lanes, excess, recallFrom, recallOf, AreCodes, storeFrom, storeOf}
 use Rattle.configuration.specs.inner.Pattern.{low, high, within}
@@ -69,27 +68,6 @@ module _ (w : ℕ) (l : List ℕ) (h : length l ≡ 4) (a b c r : ℕ) where
   slots-four = folded w slotOf (λ c n. suc (c - w + 8 * n)) (λ c k. refl) l h a b c r
 
 -- ---- `recall_from`
-abbrev pub Octal : List ℕ → Type 0
-Octal l = All (λ b. b < 8) l
-
-pub entry-octal : (v n : ℕ) → Octal (getD (entriesFor v) n [])
-entry-octal v n = each (entriesFor v) (entry-eight v) n
-  where
-    each : (t : List (List ℕ)) → ((l : List ℕ) → In l t → Octal l) → (n : ℕ) → Octal (getD t n [])
-    each [] f n = tt
-    each (l ∷ t) f zero = f l (inl refl)
-    each (l ∷ t) f (suc n) = each t (λ k h. f k (inr h)) n
-
-key-head : (l : List ℕ) → Octal l → keyOf l % 8 ≡ getD l 0 0
-unfolding keyOf
-key-head [] a = omega arith
-key-head (b ∷ l) (h, a) = omega arith
-
-key-rest : (l : List ℕ) → Octal l → keyOf l / 8 ≡ keyOf (drop 1 l)
-unfolding keyOf
-key-rest [] a = omega arith
-key-rest (b ∷ l) (h, a) = omega arith
-
 -- what is left of an entry after the digit d
 module _ (w : ℕ) where
   abbrev left : ℕ → List ℕ → List ℕ

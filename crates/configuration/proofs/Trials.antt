@@ -2,7 +2,7 @@
 -- values below C1, and no other rank counts v's. So all records from `firstTrial` down give one word, and all from `lastTrial` up give one.
 use mathlib.Core.Path.{_≡_, refl, sym, ap, ap₂, _∙_}
 use mathlib.Core.Bool.{Bool, true, false, cond}
-use mathlib.Core.List.{List, [], _∷_, map}
+use mathlib.Core.List.{List, [], _∷_}
 use Prim.Native.Nat.{ℕ, zero, suc, _+_, _*_, _-_, _<_, _≤_, min, max}
 use native.Mathlib.Omega.{arith}
 use lib.ListN.{length, getD, set}
@@ -17,7 +17,7 @@ use Rattle.configuration.specs.inner.Graph.{Trial}
 use Rattle.configuration.proofs.Digits.{four-again}
 use Rattle.configuration.proofs.Ranks.{code-above, code-under}
 use Rattle.configuration.proofs.Recalled.{lanes-below}
-use Rattle.configuration.proofs.Fans.{member-set, within-under, within-over, Uncounted, code-set}
+use Rattle.configuration.proofs.Fans.{map-all, member-set, within-under, within-over, Uncounted, code-set}
 
 -- ---- the least and the greatest of four values
 module _ (n : ℕ) (s : List ℕ) (h : length s ≡ 4) (a b c r : ℕ) where
@@ -41,15 +41,15 @@ greatest-all m n (x ∷ s) h = let (a, b) = greatest-all m n s (omega (arith, h)
 
 -- ---- the values of codes
 module _ (w : ℕ) where
-  abbrev Near : ℕ → Type 0
-  Near x = (8 ≤ x) × (x ≤ w + 23)
+  abbrev InTrials : ℕ → Type 0
+  InTrials x = (8 ≤ x) × (x ≤ w + 23)
 
-  value-near : (c : ℕ) → c < w + 8 → Near (valueOf w c)
+  value-near : (c : ℕ) → c < w + 8 → InTrials (valueOf w c)
   unfolding valueOf
   value-near c k = go (ltb c w) (ltb c (w + 4)) refl refl
     where
       go : (a b : Bool) → ltb c w ≡ a → ltb c (w + 4) ≡ b
-          → Near (cond a (low + c) (cond b (high w + 2 * (c + 1 - w)) (low - 2 * (c + 1 - (w + 4)))))
+          → InTrials (cond a (low + c) (cond b (high w + 2 * (c + 1 - w)) (low - 2 * (c + 1 - (w + 4)))))
       go true b e f = let h = ltb-true c w e in (omega arith, omega arith)
       go false true e f = let h = ltb-false c w e in let g = ltb-true c (w + 4) f in (omega arith, omega arith)
       go false false e f = let h = ltb-false c (w + 4) f in (omega arith, omega arith)
@@ -66,20 +66,20 @@ module _ (w : ℕ) where
 
 -- ---- how many values lie from p to q with y for v, if the others lie from p to q as from p′ to q′, and none of them is y or y′
 module _ (p q y p′ q′ y′ : ℕ) (i : within p q y ≡ true) (i′ : within p′ q′ y′ ≡ true) where
-  abbrev Alike : ℕ → Type 0
-  Alike x = (within p q x ≡ within p′ q′ x) × (x ≡ y → ⊥) × (x ≡ y′ → ⊥)
+  abbrev CountsAlike : ℕ → Type 0
+  CountsAlike x = (within p q x ≡ within p′ q′ x) × (x ≡ y → ⊥) × (x ≡ y′ → ⊥)
 
-  absent : (z : ℕ) → ((x : ℕ) → Alike x → x ≡ z → ⊥) → (s : List ℕ) → All Alike s → member z s ≡ false
+  absent : (z : ℕ) → ((x : ℕ) → CountsAlike x → x ≡ z → ⊥) → (s : List ℕ) → All CountsAlike s → member z s ≡ false
   unfolding member
   absent z f [] a = refl
   absent z f (x ∷ s) (h, a) = rw (ne-eqb z x (λ e. f x h (sym e)), absent z f s a)
 
-  count-alike : (s : List ℕ) → All Alike s → differentWithin p q s ≡ differentWithin p′ q′ s
+  count-alike : (s : List ℕ) → All CountsAlike s → differentWithin p q s ≡ differentWithin p′ q′ s
   unfolding differentWithin
   count-alike [] a = refl
   count-alike (x ∷ s) (h, a) = rw (h .0, count-alike s a)
 
-  count-own : (s : List ℕ) (v : ℕ) → All Alike s → differentWithin p q (set s v y) ≡ differentWithin p′ q′ (set s v y′)
+  count-own : (s : List ℕ) (v : ℕ) → All CountsAlike s → differentWithin p q (set s v y) ≡ differentWithin p′ q′ (set s v y′)
   unfolding differentWithin
   count-own [] v a = refl
   count-own (x ∷ s) zero (h, a) = rw (i, i′, absent y (λ x h. h .1) s a, absent y′ (λ x h. h .2) s a, count-alike s a)
@@ -87,10 +87,6 @@ module _ (p q y p′ q′ y′ : ℕ) (i : within p q y ≡ true) (i′ : within
       rw (h .0, member-set x v y y′ s (ne-eqb x y (h .1)) (ne-eqb x y′ (h .2)), count-own s v a)
 
 -- ---- the codes with y for v, and with y′
-map-all : (f g : ℕ → ℕ) (s : List ℕ) → All (λ x. f x ≡ g x) s → map f s ≡ map g s
-map-all f g [] a = refl
-map-all f g (x ∷ s) (h, a) = ap₂ _∷_ h (map-all f g s a)
-
 module _ (w v : ℕ) (s : List ℕ) (y y′ : ℕ) where
   abbrev f : ℕ → ℕ
   f = laneCode w (set s v y)
@@ -121,7 +117,7 @@ module _ (w v : ℕ) (s : List ℕ) (y y′ : ℕ) where
       here : (z : ℕ) → z < m → within z 15 z ≡ true
       here z l = let few = all .0 in rw (le-leb z z (omega arith), le-leb z 15 (omega arith))
 
-      alike : (x : ℕ) → m ≤ x → Alike y 15 y y′ 15 y′ (here y h) (here y′ h′) x
+      alike : (x : ℕ) → m ≤ x → CountsAlike y 15 y y′ 15 y′ (here y h) (here y′ h′) x
       alike x k = (rw (le-leb y x (omega arith), le-leb y′ x (omega arith)), (λ e. omega arith), (λ e. omega arith))
 
       count : differentWithin y 15 (set s v y) ≡ differentWithin y′ 15 (set s v y′)
@@ -148,7 +144,7 @@ module _ (w v : ℕ) (s : List ℕ) (y y′ : ℕ) where
       here : (z : ℕ) → m < z → within (15 + w + 1) z z ≡ true
       here z l = let few = all .0 in rw (le-leb (15 + w + 1) z (omega arith), le-leb z z (omega arith))
 
-      alike : (x : ℕ) → x ≤ m → Alike (15 + w + 1) y y (15 + w + 1) y′ y′ (here y h) (here y′ h′) x
+      alike : (x : ℕ) → x ≤ m → CountsAlike (15 + w + 1) y y (15 + w + 1) y′ y′ (here y h) (here y′ h′) x
       alike x k = (rw (le-leb x y (omega arith), le-leb x y′ (omega arith)), (λ e. omega arith), (λ e. omega arith))
 
       count : differentWithin (15 + w + 1) y (set s v y) ≡ differentWithin (15 + w + 1) y′ (set s v y′)

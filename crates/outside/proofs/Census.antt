@@ -20,7 +20,7 @@ use Rattle.outside.specs.inner.Rows.{rows}
 use Rattle.outside.specs.Outside.{IsOutside, signedRank, ranksOf, same, isOwn, eight, outside}
 use Rattle.outside.proofs.Rows.{in-rows, keep-in, in-keep}
 use Rattle.outside.proofs.Listed.{outside-once, outside-width, outside-eight}
-use Rattle.outside.proofs.Own.{Out, Ranked, put, put-above, put-below, ranks-put, pattern-ranked, pattern-own}
+use Rattle.outside.proofs.Own.{Out, Ranked, rankPlace, rank-place-above, rank-place-below, ranks-of-places, pattern-ranked, pattern-own}
 
 same-in : (r s : List ℤ) → T (same r s) → r ≡ s
 unfolding same
@@ -65,12 +65,12 @@ unfolding outside isOwn
 own-outside r h own = in-keep isOwn r (rows eight (length r)) (in-rows eight r h) (subst (λ t. T (same t r)) (sym own) (same-self r))
 
 module _ {lo hi : ℤ} (z : Inside lo hi (pos 0)) where
-  put-outside : (x : ℤ) → In x eight → Out lo hi (put lo hi x)
-  put-outside x i = go (all-in (λ x. T (ltZ (pos 0) x) ⊎ T (ltZ x (pos 0))) eight x eight-sides i)
+  rank-place-outside : (x : ℤ) → In x eight → Out lo hi (rankPlace lo hi x)
+  rank-place-outside x i = go (all-in (λ x. T (ltZ (pos 0) x) ⊎ T (ltZ x (pos 0))) eight x eight-sides i)
     where
-      go : T (ltZ (pos 0) x) ⊎ T (ltZ x (pos 0)) → Out lo hi (put lo hi x)
-      go (inl h) = inl (subst T (sym (put-above z x)) h)
-      go (inr h) = inr (subst T (sym (put-below z x)) h)
+      go : T (ltZ (pos 0) x) ⊎ T (ltZ x (pos 0)) → Out lo hi (rankPlace lo hi x)
+      go (inl h) = inl (subst T (sym (rank-place-above z x)) h)
+      go (inr h) = inr (subst T (sym (rank-place-below z x)) h)
 
   pub pattern-outside : (values : List ℤ) → length values ≤ 4 → ((x : ℤ) → In x values → Out lo hi x)
       → In (map signedRank (pattern lo hi values)) (outside (length (map signedRank (pattern lo hi values))))
@@ -91,11 +91,11 @@ module _ {lo hi : ℤ} (z : Inside lo hi (pos 0)) where
             (subst (λ t. In t (outside (length t))) (o .is) (pattern-outside (o .values) (omega (arith, o .size)) (o .beyond)));
         only = λ r h.
             record {
-              values = map (put lo hi) r;
-              size = length-map r (put lo hi) ∙ outside-width v r h;
+              values = map (rankPlace lo hi) r;
+              size = length-map r (rankPlace lo hi) ∙ outside-width v r h;
               beyond = λ x k.
-                  let (y, i, e) = map-in (put lo hi) x r k in
-                  subst (Out lo hi) e (put-outside y (all-in (λ x. In x eight) r y (outside-eight v r h) i));
-              is = ranks-put z r ∙ outside-own v r h;
+                  let (y, i, e) = map-in (rankPlace lo hi) x r k in
+                  subst (Out lo hi) e (rank-place-outside y (all-in (λ x. In x eight) r y (outside-eight v r h) i));
+              is = ranks-of-places z r ∙ outside-own v r h;
             };
       }

@@ -27,10 +27,10 @@ abbrev pub Out : (lo hi : ℤ) → ℤ → Type 0
 Out lo hi x = T (ltZ hi x) ⊎ T (ltZ x lo)
 
 -- where the spread of a pattern puts a signed rank
-abbrev pub put : (lo hi : ℤ) → ℤ → ℤ
-put lo hi (pos zero) = pos 0
-put lo hi (pos (suc k)) = place lo hi (above (suc k))
-put lo hi (negsuc k) = place lo hi (below (suc k))
+abbrev pub rankPlace : (lo hi : ℤ) → ℤ → ℤ
+rankPlace lo hi (pos zero) = pos 0
+rankPlace lo hi (pos (suc k)) = place lo hi (above (suc k))
+rankPlace lo hi (negsuc k) = place lo hi (below (suc k))
 
 -- a mark outside, with a rank from 1 to n
 abbrev pub Ranked : ℕ → Mark → Type 0
@@ -43,45 +43,45 @@ both : {a b : Bool} → (T a → T b) × (T b → T a) → a ≡ b
 both {a} {b} (f, g) = same-test a b f g
 
 module _ {lo hi : ℤ} (z : Inside lo hi (pos 0)) where
-  pub put-above : (x : ℤ) → ltZ hi (put lo hi x) ≡ ltZ (pos 0) x
-  put-above (pos zero) = both (omega zarith)
-  put-above (pos (suc k)) = both (omega (zarith, above-placed z (suc k)))
-  put-above (negsuc k) = both (omega (zarith, below-placed z (suc k)))
+  pub rank-place-above : (x : ℤ) → ltZ hi (rankPlace lo hi x) ≡ ltZ (pos 0) x
+  rank-place-above (pos zero) = both (omega zarith)
+  rank-place-above (pos (suc k)) = both (omega (zarith, above-placed z (suc k)))
+  rank-place-above (negsuc k) = both (omega (zarith, below-placed z (suc k)))
 
-  pub put-below : (x : ℤ) → ltZ (put lo hi x) lo ≡ ltZ x (pos 0)
-  put-below (pos zero) = both (omega zarith)
-  put-below (pos (suc k)) = both (omega (zarith, above-placed z (suc k)))
-  put-below (negsuc k) = both (omega (zarith, below-placed z (suc k)))
+  pub rank-place-below : (x : ℤ) → ltZ (rankPlace lo hi x) lo ≡ ltZ x (pos 0)
+  rank-place-below (pos zero) = both (omega zarith)
+  rank-place-below (pos (suc k)) = both (omega (zarith, above-placed z (suc k)))
+  rank-place-below (negsuc k) = both (omega (zarith, below-placed z (suc k)))
 
-  put-order : (x y : ℤ) → ltZ (put lo hi x) (put lo hi y) ≡ ltZ x y
-  put-order (pos zero) (pos zero) = refl
-  put-order (pos zero) (pos (suc k)) = both (omega (zarith, above-placed z (suc k)))
-  put-order (pos zero) (negsuc k) = both (omega (zarith, below-placed z (suc k)))
-  put-order (pos (suc j)) (pos zero) = both (omega (zarith, above-placed z (suc j)))
-  put-order (pos (suc j)) (pos (suc k)) = both (omega (zarith, above-placed z (suc j), above-placed z (suc k)))
-  put-order (pos (suc j)) (negsuc k) = both (omega (zarith, above-placed z (suc j), below-placed z (suc k)))
-  put-order (negsuc j) (pos zero) = both (omega (zarith, below-placed z (suc j)))
-  put-order (negsuc j) (pos (suc k)) = both (omega (zarith, below-placed z (suc j), above-placed z (suc k)))
-  put-order (negsuc j) (negsuc k) = both (omega (zarith, below-placed z (suc j), below-placed z (suc k)))
+  rank-place-order : (x y : ℤ) → ltZ (rankPlace lo hi x) (rankPlace lo hi y) ≡ ltZ x y
+  rank-place-order (pos zero) (pos zero) = refl
+  rank-place-order (pos zero) (pos (suc k)) = both (omega (zarith, above-placed z (suc k)))
+  rank-place-order (pos zero) (negsuc k) = both (omega (zarith, below-placed z (suc k)))
+  rank-place-order (pos (suc j)) (pos zero) = both (omega (zarith, above-placed z (suc j)))
+  rank-place-order (pos (suc j)) (pos (suc k)) = both (omega (zarith, above-placed z (suc j), above-placed z (suc k)))
+  rank-place-order (pos (suc j)) (negsuc k) = both (omega (zarith, above-placed z (suc j), below-placed z (suc k)))
+  rank-place-order (negsuc j) (pos zero) = both (omega (zarith, below-placed z (suc j)))
+  rank-place-order (negsuc j) (pos (suc k)) = both (omega (zarith, below-placed z (suc j), above-placed z (suc k)))
+  rank-place-order (negsuc j) (negsuc k) = both (omega (zarith, below-placed z (suc j), below-placed z (suc k)))
 
-  put-among : (x : ℤ) (v : List ℤ) → among (put lo hi x) (map (put lo hi) v) ≡ among x v
+  among-places : (x : ℤ) (v : List ℤ) → among (rankPlace lo hi x) (map (rankPlace lo hi) v) ≡ among x v
   unfolding among
-  put-among x [] = refl
-  put-among x (y ∷ v) = rw (put-order x y, put-order y x, put-among x v)
+  among-places x [] = refl
+  among-places x (y ∷ v) = rw (rank-place-order x y, rank-place-order y x, among-places x v)
 
-  put-different : (p q : ℤ → Bool) → ((y : ℤ) → p (put lo hi y) ≡ q y) → (v : List ℤ) → different p (map (put lo hi) v) ≡ different q v
+  different-places : (p q : ℤ → Bool) → ((y : ℤ) → p (rankPlace lo hi y) ≡ q y) → (v : List ℤ) → different p (map (rankPlace lo hi) v) ≡ different q v
   unfolding different
-  put-different p q same [] = refl
-  put-different p q same (x ∷ v) = rw (same x, put-among x v, put-different p q same v)
+  different-places p q same [] = refl
+  different-places p q same (x ∷ v) = rw (same x, among-places x v, different-places p q same v)
 
-  put-mark : (v : List ℤ) (x : ℤ) → signedRank (mark lo hi (map (put lo hi) v) (put lo hi x)) ≡ signedRank (mark (pos 0) (pos 0) v x)
+  mark-places : (v : List ℤ) (x : ℤ) → signedRank (mark lo hi (map (rankPlace lo hi) v) (rankPlace lo hi x)) ≡ signedRank (mark (pos 0) (pos 0) v x)
   unfolding mark
-  put-mark v x =
+  mark-places v x =
       rw (
-        put-above x,
-        put-below x,
-        put-different (λ y. ltZ hi y && not (ltZ (put lo hi x) y)) (λ y. ltZ (pos 0) y && not (ltZ x y)) (λ y. rw (put-above y, put-order x y)) v,
-        put-different (λ y. ltZ y lo && not (ltZ y (put lo hi x))) (λ y. ltZ y (pos 0) && not (ltZ y x)) (λ y. rw (put-below y, put-order y x)) v,
+        rank-place-above x,
+        rank-place-below x,
+        different-places (λ y. ltZ hi y && not (ltZ (rankPlace lo hi x) y)) (λ y. ltZ (pos 0) y && not (ltZ x y)) (λ y. rw (rank-place-above y, rank-place-order x y)) v,
+        different-places (λ y. ltZ y lo && not (ltZ y (rankPlace lo hi x))) (λ y. ltZ y (pos 0) && not (ltZ y x)) (λ y. rw (rank-place-below y, rank-place-order y x)) v,
       )
       (go (ltZ (pos 0) x) (ltZ x (pos 0)))
     where
@@ -89,18 +89,18 @@ module _ {lo hi : ℤ} (z : Inside lo hi (pos 0)) where
       tagged a b y = cond a (above (rank ltZ (pos 0) v x)) (cond b (below (rank (λ y u. ltZ u y) (pos 0) v x)) (inside y))
 
       -- what is inside does not show
-      go : (a b : Bool) → signedRank (tagged a b (put lo hi x)) ≡ signedRank (tagged a b x)
+      go : (a b : Bool) → signedRank (tagged a b (rankPlace lo hi x)) ≡ signedRank (tagged a b x)
       go true b = refl
       go false true = refl
       go false false = refl
 
-  put-marks : (v l : List ℤ) → map signedRank (map (mark lo hi (map (put lo hi) v)) (map (put lo hi) l)) ≡ map signedRank (map (mark (pos 0) (pos 0) v) l)
+  put-marks : (v l : List ℤ) → map signedRank (map (mark lo hi (map (rankPlace lo hi) v)) (map (rankPlace lo hi) l)) ≡ map signedRank (map (mark (pos 0) (pos 0) v) l)
   put-marks v [] = refl
-  put-marks v (x ∷ l) = ap₂ _∷_ (put-mark v x) (put-marks v l)
+  put-marks v (x ∷ l) = ap₂ _∷_ (mark-places v x) (put-marks v l)
 
-  pub ranks-put : (r : List ℤ) → map signedRank (pattern lo hi (map (put lo hi) r)) ≡ ranksOf r
+  pub ranks-of-places : (r : List ℤ) → map signedRank (pattern lo hi (map (rankPlace lo hi) r)) ≡ ranksOf r
   unfolding ranksOf pattern
-  ranks-put r = put-marks r r
+  ranks-of-places r = put-marks r r
 
   -- ---- patterns of values outside
   mark-ranked : (v : List ℤ) (x : ℤ) → In x v → Out lo hi x → Ranked (length v) (mark lo hi v x)
@@ -116,7 +116,7 @@ module _ {lo hi : ℤ} (z : Inside lo hi (pos 0)) where
   pattern-ranked v beyond =
       all-map (λ x. In x v) (Ranked (length v)) (mark lo hi v) (λ x i. mark-ranked v x i (beyond x i)) v (all-each (λ x. In x v) v (λ x i. i))
 
-  put-signed : (n : ℕ) (m : List Mark) → All (Ranked n) m → map (put lo hi) (map signedRank m) ≡ map (place lo hi) m
+  put-signed : (n : ℕ) (m : List Mark) → All (Ranked n) m → map (rankPlace lo hi) (map signedRank m) ≡ map (place lo hi) m
   put-signed n [] h = refl
   put-signed n (inside c ∷ m) (h, hs) = absurd h
   put-signed n (above zero ∷ m) (h, hs) = absurd (omega arith)
@@ -127,6 +127,6 @@ module _ {lo hi : ℤ} (z : Inside lo hi (pos 0)) where
   pub pattern-own : (v : List ℤ) → All (Ranked (length v)) (pattern lo hi v) → ranksOf (map signedRank (pattern lo hi v)) ≡ map signedRank (pattern lo hi v)
   unfolding spread
   pattern-own v h =
-      sym (ranks-put (map signedRank (pattern lo hi v)))
+      sym (ranks-of-places (map signedRank (pattern lo hi v)))
       ∙ ap (λ t. map signedRank (pattern lo hi t)) (put-signed (length v) (pattern lo hi v) h)
       ∙ ap (map signedRank) (pattern-spread z v)

@@ -2,6 +2,7 @@
 use mathlib.Core.Path.{_≡_, refl, sym, ap, ap₂, _∙_, subst}
 use mathlib.Core.Bool.{cond}
 use mathlib.Core.List.{List, [], _∷_, map}
+use mathlib.Core.Logic.{inl, inr}
 use Prim.Native.Nat.{ℕ, zero, suc, _+_, _-_, _<_, _≤_}
 use native.Mathlib.Omega.{arith}
 use lib.IntN.{ℤ, pos, negsuc}
@@ -16,7 +17,7 @@ use Rattle.outside.specs.inner.Rows.{rows, keep}
 use Rattle.outside.specs.Outside.{ranksOf, same, isOwn, eight, outside}
 use Rattle.outside.proofs.Listed.{outside-numbers, outside-once, outside-width, outside-eight}
 use Rattle.outside_row.specs.inner.Table.{rankNumber, entriesFor, slotOf, HasEntry}
-use Rattle.outside_row.proofs.Keys.{slot-tells}
+use Rattle.outside_row.proofs.Keys.{Octal, slot-tells}
 use Rattle.outside_row.proofs.Places.{in-getD, once-place}
 
 -- ---- the numbers of the eight ranks
@@ -42,11 +43,20 @@ pub entries-length : (v : ℕ) → length (entriesFor v) ≡ length (outside v)
 unfolding entriesFor
 entries-length v = length-map (outside v) (map rankNumber)
 
-pub entry-eight : (v : ℕ) (l : List ℕ) → In l (entriesFor v) → All (λ b. b < 8) l
+pub entry-eight : (v : ℕ) (l : List ℕ) → In l (entriesFor v) → Octal l
 unfolding entriesFor
 entry-eight v l h =
     let (r, k, e) = map-in (map rankNumber) l (outside v) h in
-    subst (All (λ b. b < 8)) e (all-map (λ x. In x eight) (λ b. b < 8) rankNumber number-eight r (outside-eight v r k))
+    subst (Octal) e (all-map (λ x. In x eight) (λ b. b < 8) rankNumber number-eight r (outside-eight v r k))
+
+-- also past the last entry
+pub entry-octal : (v n : ℕ) → Octal (getD (entriesFor v) n [])
+entry-octal v n = each (entriesFor v) (entry-eight v) n
+  where
+    each : (t : List (List ℕ)) → ((l : List ℕ) → In l t → Octal l) → (n : ℕ) → Octal (getD t n [])
+    each [] f n = tt
+    each (l ∷ t) f zero = f l (inl refl)
+    each (l ∷ t) f (suc n) = each t (λ k h. f k (inr h)) n
 
 pub entry-width : (v : ℕ) (l : List ℕ) → In l (entriesFor v) → length l ≡ v
 unfolding entriesFor
@@ -83,7 +93,7 @@ module _ (v n : ℕ) (is : HasEntry v n) where
   listed-in : In (getD (entriesFor v) n []) (entriesFor v)
   listed-in = in-getD [] (entriesFor v) n (is .below)
 
-  pub listed-eight : All (λ b. b < 8) (getD (entriesFor v) n [])
+  pub listed-eight : Octal (getD (entriesFor v) n [])
   listed-eight = entry-eight v (getD (entriesFor v) n []) listed-in
 
   pub listed-width : length (getD (entriesFor v) n []) ≡ v
