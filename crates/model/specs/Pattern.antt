@@ -2,8 +2,9 @@
 use mathlib.Core.Bool.{Bool, false, not, cond, _&&_, _||_}
 use mathlib.Core.List.{List, [], _∷_, map}
 use Prim.Native.Nat.{ℕ, suc}
-use lib.IntN.{ℤ}
+use lib.IntN.{ℤ, _-ℤ_}
 use lib.Signed.{ltZ}
+use Rattle.model.specs.inner.Integers.{up}
 
 -- what the pattern says of one variable: its value from lo to hi; beyond, its rank
 pub data Mark : Type 0 where
@@ -33,3 +34,7 @@ mark lo hi values x =
 
 unfoldable pub pattern : (lo hi : ℤ) → List ℤ → List Mark
 pattern lo hi values = map (mark lo hi values) values
+
+-- w: how many whole numbers there are from lo to hi, lo being at most hi
+unfoldable pub widthOf : (lo hi : ℤ) → ℕ
+widthOf lo hi = suc (up (hi -ℤ lo))

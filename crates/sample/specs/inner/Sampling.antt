@@ -15,7 +15,7 @@ use Rattle.model.specs.Tapes.{total}
 use Rattle.model.specs.inner.Runs.{Follows, wider}
 use Rattle.flow.specs.Limits.{maxTapes, maxVariables, leastConstant, greatestConstant}
 use Rattle.flow.specs.Legal.{Legal}
-use Rattle.configuration.specs.inner.Op.{widthOf}
+use Rattle.model.specs.Pattern.{widthOf}
 use Rattle.configuration.specs.inner.Place.{words, atOf, configurationOf}
 use Rattle.configuration.specs.inner.Step.{takesOf, startOf}
 use Rattle.configuration.specs.inner.Graph.{WordEdge, opAt}

@@ -5,13 +5,13 @@ use mathlib.Core.List.{List, _∷_, map}
 use Prim.Native.Nat.{ℕ, _<_}
 use lib.ListN.{length, getD, take}
 use Rattle.model.specs.Language.{Instruction, stop, Flow, hasExits, C1, C2}
+use Rattle.model.specs.Pattern.{widthOf}
 use Rattle.flow.specs.Limits.{maxInstructions}
 use Rattle.flow.specs.Code.{rowOf}
 use Rattle.flow.specs.Legal.{Legal}
 use Rattle.flow.specs.declared.Instruction.{Instruction as Row}
 use Rattle.flow.specs.inner.Rows.{instructionOf}
 use Rattle.configuration.specs.inner.Prepare.{FitBytes}
-use Rattle.configuration.specs.inner.Op.{widthOf}
 use Rattle.configuration.specs.inner.Step.{startOf}
 use Rattle.search_table.specs.inner.Passes.{Prepared}
 use Rattle.search_table.specs.declared.Distances.{Distances}

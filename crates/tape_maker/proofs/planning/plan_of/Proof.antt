@@ -7,7 +7,8 @@ use mir.Val.{SFits, toZ, ofZ}
 use mir.Facts.{toZ-ofZ}
 use lib.IntN.{ℤ, pos}
 use Rattle.model.specs.Language.{C1, C2}
-use Rattle.configuration.specs.inner.Op.{offset, opOf, widthOf}
+use Rattle.model.specs.Pattern.{widthOf}
+use Rattle.configuration.specs.inner.Op.{offset, opOf}
 use Rattle.configuration.specs.inner.Pattern.{lane}
 use Rattle.configuration.specs.inner.Step.{startOf}
 use Rattle.configuration.proofs.Fitting.{fit-legal}
