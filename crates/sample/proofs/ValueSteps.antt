@@ -27,14 +27,16 @@ use Rattle.sample_row.specs.declared.Walk.{Walk}
 use Rattle.sample_row.proofs.Followed.{SilentStep}
 use Rattle.configuration.specs.inner.Pattern.{maxWidth, lanes, valuesOf}
 use Rattle.configuration.specs.inner.Place.{atOf, endsOf, goOf, finishOf, configurationOf}
-use Rattle.configuration.specs.inner.Op.{offset, opOf}
+use Rattle.constants.specs.inner.Constants.{offset}
+use Rattle.configuration.specs.inner.Op.{opOf}
 use Rattle.configuration.specs.inner.Step.{endedOf, nextBy, nextOf, takeOf, wordExitOf}
 use Rattle.configuration.specs.inner.Graph.{WordEdge, moves, takes, opAt}
 use Rattle.configuration.specs.declared.Words.{Words}
 use Rattle.configuration.specs.declared.Op.{Op}
 use Rattle.configuration.specs.declared.Action.{Action}
 use Rattle.configuration.specs.declared.Action.the-variants.{Read, Assign, Test, Go, Stop}
-use Rattle.configuration.proofs.Span.{inside-real, offset-is}
+use Rattle.configuration.proofs.Span.{inside-real}
+use Rattle.constants.proofs.Offsets.{offset-is}
 use Rattle.configuration.proofs.Lanes.{length-values-of}
 use Rattle.configuration.proofs.Prepared.{op-constant}
 use Rattle.configuration.proofs.Places.{ends-go, ends-finish, length-ends}

@@ -8,7 +8,7 @@ ghost use Rattle.search_table.specs.inner.Passes.{blank};
 ghost use Rattle.tape_maker.specs.inner.Plan.{AllFitBytes, Each, Planned};
 use configuration::Op;
 use configuration::Words;
-use configuration::constants;
+use configuration::forms;
 use flow::Flow;
 use flow::Instruction;
 
@@ -33,7 +33,7 @@ fn prepare(
     let mut ops = [Op::stop(); Flow::MAX_INSTRUCTIONS];
     let mut i = 0;
     while i < count {
-        ops[i] = constants::prepare(instructions[i], lo);
+        ops[i] = forms::prepare(instructions[i], lo);
         i += 1;
     }
     ops

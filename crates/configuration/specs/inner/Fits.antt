@@ -10,7 +10,7 @@ use Rattle.model.specs.inner.View.{viewAt, LegalFlow, Targeted}
 use Rattle.flow.specs.Limits.{maxTapes, maxVariables}
 use Rattle.configuration.specs.inner.Pattern.{Width, lanes, Valid}
 use Rattle.configuration.specs.inner.Place.{endsOf}
-use Rattle.configuration.specs.inner.Op.{offset}
+use Rattle.constants.specs.inner.Constants.{offset}
 use Rattle.configuration.specs.declared.Words.{Words}
 
 -- lo to hi are w whole numbers, 0 among them

@@ -3,9 +3,7 @@ use mathlib.Core.Path.{_≡_}
 use mathlib.Core.Bool.{Bool, true, false, not}
 use mathlib.Core.List.{List, map}
 use Prim.Native.Nat.{ℕ, _-_, _≤_}
-use lib.IntN.{ℤ, pos}
 use lib.ListN.{getD}
-use Rattle.model.specs.Language.{Instruction, fields, constants}
 use Rattle.flow.specs.Limits.{maxVariables}
 use Rattle.flow.specs.Words.{sorts, mayMinus, count, at}
 use Rattle.flow.specs.declared.Instruction.{Instruction as Row}
@@ -15,10 +13,6 @@ use Rattle.flow.specs.declared.Kind.the-variants.{Read, Put, Copy, Set, Less, O
 use Rattle.flow.specs.inner.Rows.{numbersIn}
 use Rattle.configuration.specs.inner.Op.{readOp, assignOp, testOp, goOp, stopOp}
 use Rattle.configuration.specs.declared.Op.{Op}
-
--- the constant that an instruction names, 0 if it names none
-abbrev pub constantIn : Instruction → ℤ
-constantIn x = getD (constants (fields x)) 0 (pos 0)
 
 -- whether field j of a kind is a count, and rows whose counts fit a byte
 abbrev pub isCount : List Sort → ℕ → Bool

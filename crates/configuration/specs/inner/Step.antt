@@ -11,7 +11,7 @@ use Rattle.flow.specs.Limits.{maxVariables}
 use Rattle.configuration.specs.inner.Digits.{undigits}
 use Rattle.configuration.specs.inner.Pattern.{lane, lanes, valueOf, lessOf, assignOf}
 use Rattle.configuration.specs.inner.Place.{words, endsOf, goOf, finishOf}
-use Rattle.configuration.specs.inner.Op.{offset}
+use Rattle.constants.specs.inner.Constants.{offset}
 use Rattle.configuration.specs.declared.Words.{Words}
 use Rattle.configuration.specs.declared.Op.{Op}
 use Rattle.configuration.specs.declared.Action.{Action}

@@ -8,7 +8,8 @@ use mir.Facts.{toZ-ofZ}
 use lib.IntN.{ℤ, pos}
 use Rattle.model.specs.Language.{C1, C2}
 use Rattle.model.specs.Pattern.{widthOf}
-use Rattle.configuration.specs.inner.Op.{offset, opOf}
+use Rattle.constants.specs.inner.Constants.{offset}
+use Rattle.configuration.specs.inner.Op.{opOf}
 use Rattle.configuration.specs.inner.Pattern.{lane}
 use Rattle.configuration.specs.inner.Step.{startOf}
 use Rattle.configuration.proofs.Fitting.{fit-legal}

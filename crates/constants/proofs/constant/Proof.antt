@@ -1,4 +1,4 @@
--- `constants::constant` meets its contract: the constant of the fields from k on is that of all of them.
+-- `constant` meets its contract: the constant of the fields from k on is that of all of them.
 use mathlib.Core.Path.{_≡_, sym, ap, _∙_}
 use Prim.Native.Nat.{_-_, _≤_, _<_}
 use native.Mathlib.Omega.{arith}
@@ -10,10 +10,10 @@ use Rattle.flow.specs.Words.{sorts, mayMinus}
 use Rattle.flow.specs.declared.Sort.the-variants.{Target}
 use Rattle.flow.proofs.RowLaws.{width-bound}
 use Rattle.flow.specs.inner.Rows.{instructionOf, numbersIn}
-use Rattle.configuration.specs.inner.Prepare.{constantIn}
-use Rattle.configuration.proofs.Prepared as laws
-use Rattle.configuration.proofs.constants.constant.Statement.{statement}
-use Rattle.configuration.proofs.constants.constant.Tie as tie
+use Rattle.constants.specs.inner.Constants.{constantIn}
+use Rattle.constants.proofs.RowConstants as laws
+use Rattle.constants.proofs.constant.Statement.{statement}
+use Rattle.constants.proofs.constant.Tie as tie
 
 abbrev Inv-loop : tie.InvT-loop
 Inv-loop x kind k₀ k-end k = (k ≤ k-end) × (laws.constantFrom (sorts (x .kind)) (numbersIn x) k ≡ constantIn (instructionOf x))

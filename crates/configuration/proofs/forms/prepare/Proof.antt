@@ -1,4 +1,4 @@
--- `constants::prepare` meets its contract: the row's numbers are prepared, and its kind gives them their form.
+-- `forms::prepare` meets its contract: the row's numbers are prepared, and its kind gives them their form.
 use mathlib.Core.Path.{_≡_, ap, _∙_}
 use Prim.Native.Nat.{ℕ, min}
 use borrow.Author.Needs.{needs}
@@ -7,10 +7,10 @@ use mir.Syntax.{w32}
 use mir.Val.{SFits, toZ, ofZ}
 use mir.Facts.{toZ-ofZ}
 use Rattle.flow.specs.Words.{count}
-use Rattle.configuration.proofs.Offsets.{offset-bits}
+use Rattle.constants.proofs.Offsets.{offset-bits}
 use Rattle.configuration.proofs.Prepared.{prepared}
-use Rattle.configuration.proofs.constants.prepare.Statement.{statement}
-use Rattle.configuration.proofs.constants.prepare.Tie as tie
+use Rattle.configuration.proofs.forms.prepare.Statement.{statement}
+use Rattle.configuration.proofs.forms.prepare.Tie as tie
 
 -- a number of the row, in a byte
 in-byte : (z : ℤ) → SFits w32 z → (r : ℕ) → r ≡ min (count (toZ w32 (ofZ w32 z))) 255 → r ≡ min (count z) 255

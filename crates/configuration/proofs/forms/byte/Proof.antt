@@ -1,4 +1,4 @@
--- `constants::byte` meets its contract: a number below 0 counts as 0.
+-- `forms::byte` meets its contract: a number below 0 counts as 0.
 use mathlib.Core.Path.{_≡_, refl, sym}
 use mathlib.Core.Bool.{true, false, true≢false}
 use Prim.Native.Nat.{min, _≤_}
@@ -9,8 +9,8 @@ use lib.IntN.{ℤ, pos, negsuc, natAbs}
 use lib.Signed.{ltZ, nonNeg}
 use mir.Facts.{toZ-ofZ}
 use Rattle.flow.specs.Words.{count}
-use Rattle.configuration.proofs.constants.byte.Statement.{statement}
-use Rattle.configuration.proofs.constants.byte.Tie as tie
+use Rattle.configuration.proofs.forms.byte.Statement.{statement}
+use Rattle.configuration.proofs.forms.byte.Tie as tie
 
 below : (z : ℤ) → ltZ z (pos 0) ≡ true → 0 ≡ min (count z) 255
 below (pos n) h = absurd (omega (arith, ltb-true n 0 h))

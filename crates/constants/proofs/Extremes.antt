@@ -21,8 +21,8 @@ use Rattle.flow.specs.declared.Kind.the-variants.{Read}
 use Rattle.flow.specs.declared.Flow.{Flow as Rows}
 use Rattle.flow.specs.declared.Instruction.{Instruction as Row}
 use Rattle.flow.specs.inner.Rows.{instructionOf, flowOf}
-use Rattle.configuration.specs.inner.Prepare.{constantIn}
-use Rattle.configuration.proofs.Prepared.{few-constants}
+use Rattle.constants.specs.inner.Constants.{constantIn}
+use Rattle.constants.proofs.RowConstants.{few-constants}
 
 abbrev pub lesser : ℤ → ℤ → ℤ
 lesser c r = cond (ltZ c r) c r
