@@ -1,68 +1,40 @@
 -- The table for v variables, up to four, holds each outside pattern of v variables once, and nothing else.
-use mathlib.Core.Path.{_≡_, refl, sym, ap, ap₂, _∙_, subst}
-use mathlib.Core.List.{List, [], _∷_, map}
+use mathlib.Core.Path.{_≡_, refl, sym, ap, _∙_, subst}
+use mathlib.Core.Bool.{not, _&&_}
+use mathlib.Core.List.{List, map}
 use mathlib.Core.Logic.{_⊎_, inl, inr}
 use Prim.Native.Nat.{ℕ, zero, suc, _≤_}
 use native.Mathlib.Omega.{arith}
-use lib.IntN.{ℤ, pos}
+use lib.IntN.{ℤ, pos, negℤ}
 use lib.Signed.{ltZ}
 use lib.ListN.{length, length-map}
 use lib.Dec.{T}
 use Rattle.graph.specs.Lists.{In, Census}
 use Rattle.graph.proofs.Counting.{map-in}
-use Rattle.model.specs.Pattern.{Mark, inside, above, below, equal, pattern}
+use Rattle.model.specs.Pattern.{rank, mark, pattern}
 use Rattle.model.specs.inner.Integers.{Inside}
 use Rattle.model.specs.inner.Lists.{All}
-use Rattle.model.proofs.Integers.{and-in, and-out}
 use Rattle.model.proofs.Lists.{all-in, all-map}
-use Rattle.model.proofs.Ranks.{equal-in, equal-out, length-pattern}
-use Rattle.outside.specs.inner.Rows.{rows}
-use Rattle.outside.specs.Outside.{IsOutside, signedRank, ranksOf, same, isOwn, eight, outside}
-use Rattle.outside.proofs.Rows.{in-rows, keep-in, in-keep}
-use Rattle.outside.proofs.Listed.{outside-once, outside-width, outside-eight}
-use Rattle.outside.proofs.Own.{Out, Ranked, rankPlace, rank-place-above, rank-place-below, ranks-of-places, pattern-ranked, pattern-own}
-
-same-in : (r s : List ℤ) → T (same r s) → r ≡ s
-unfolding same
-same-in [] [] h = refl
-same-in [] (y ∷ s) h = absurd h
-same-in (x ∷ r) [] h = absurd h
-same-in (x ∷ r) (y ∷ s) h = let (p, q) = and-in (equal x y) (same r s) h in ap₂ _∷_ (equal-in x y p) (same-in r s q)
-
-same-self : (r : List ℤ) → T (same r r)
-unfolding same
-same-self [] = tt
-same-self (x ∷ r) = and-out (equal x x) (same r r) (equal-out x x refl) (same-self r)
+use Rattle.model.proofs.Side.{above-mark, below-mark, upper, lower}
+use Rattle.model.proofs.Ranks.{rank-pos, different-length, length-pattern}
+use Rattle.outside.specs.inner.Rows.{rows, keep}
+use Rattle.outside.specs.Outside.{IsOutside, signedRank, isOwn, eight, outside}
+use Rattle.outside.proofs.Listed.{in-among, in-own, outside-once, outside-width, outside-eight, outside-own}
+use Rattle.outside.proofs.Own.{Out, rankPlace, rank-place-above, rank-place-below, ranks-of-places, all-marks, pattern-own}
 
 -- ---- ranks from 1 to 4, above or below, are the eight
-signed-eight : (n : ℕ) → n ≤ 4 → (m : Mark) → Ranked n m → In (signedRank m) eight
+rank-eight : (k : ℕ) → 1 ≤ k → k ≤ 4 → In (pos k) eight × In (negℤ (pos k)) eight
 unfolding eight
-signed-eight n f (inside c) h = absurd h
-signed-eight n f (above zero) (h, k) = absurd (omega arith)
-signed-eight n f (above (suc zero)) (h, k) = inr (inr (inr (inr (inl refl))))
-signed-eight n f (above (suc (suc zero))) (h, k) = inr (inr (inr (inr (inr (inl refl)))))
-signed-eight n f (above (suc (suc (suc zero)))) (h, k) = inr (inr (inr (inr (inr (inr (inl refl))))))
-signed-eight n f (above (suc (suc (suc (suc zero))))) (h, k) = inr (inr (inr (inr (inr (inr (inr (inl refl)))))))
-signed-eight n f (above (suc (suc (suc (suc (suc i)))))) (h, k) = absurd (omega arith)
-signed-eight n f (below zero) (h, k) = absurd (omega arith)
-signed-eight n f (below (suc zero)) (h, k) = inr (inr (inr (inl refl)))
-signed-eight n f (below (suc (suc zero))) (h, k) = inr (inr (inl refl))
-signed-eight n f (below (suc (suc (suc zero)))) (h, k) = inr (inl refl)
-signed-eight n f (below (suc (suc (suc (suc zero))))) (h, k) = inl refl
-signed-eight n f (below (suc (suc (suc (suc (suc i)))))) (h, k) = absurd (omega arith)
+rank-eight zero h f = absurd (omega arith)
+rank-eight (suc zero) h f = (inr (inr (inr (inr (inl refl)))), inr (inr (inr (inl refl))))
+rank-eight (suc (suc zero)) h f = (inr (inr (inr (inr (inr (inl refl))))), inr (inr (inl refl)))
+rank-eight (suc (suc (suc zero))) h f = (inr (inr (inr (inr (inr (inr (inl refl)))))), inr (inl refl))
+rank-eight (suc (suc (suc (suc zero)))) h f = (inr (inr (inr (inr (inr (inr (inr (inl refl))))))), inl refl)
+rank-eight (suc (suc (suc (suc (suc k))))) h f = absurd (omega arith)
 
 eight-sides : All (λ x. T (ltZ (pos 0) x) ⊎ T (ltZ x (pos 0))) eight
 unfolding eight
 eight-sides = (inr tt, (inr tt, (inr tt, (inr tt, (inl tt, (inl tt, (inl tt, (inl tt, tt))))))))
-
--- ---- an entry is its own, and ranks of the eight that are their own are an entry
-outside-own : (v : ℕ) (r : List ℤ) → In r (outside v) → ranksOf r ≡ r
-unfolding outside isOwn
-outside-own v r h = same-in (ranksOf r) r (keep-in isOwn r (rows eight v) h .1)
-
-own-outside : (r : List ℤ) → All (λ x. In x eight) r → ranksOf r ≡ r → In r (outside (length r))
-unfolding outside isOwn
-own-outside r h own = in-keep isOwn r (rows eight (length r)) (in-rows eight r h) (subst (λ t. T (same t r)) (sym own) (same-self r))
 
 module _ {lo hi : ℤ} (z : Inside lo hi (pos 0)) where
   rank-place-outside : (x : ℤ) → In x eight → Out lo hi (rankPlace lo hi x)
@@ -72,21 +44,36 @@ module _ {lo hi : ℤ} (z : Inside lo hi (pos 0)) where
       go (inl h) = inl (subst T (sym (rank-place-above z x)) h)
       go (inr h) = inr (subst T (sym (rank-place-below z x)) h)
 
+  pub mark-eight : (v : List ℤ) → length v ≤ 4 → (x : ℤ) → In x v → Out lo hi x → In (signedRank (mark lo hi v x)) eight
+  mark-eight v few x i (inl h) =
+      rw (above-mark z v x h)
+      (rank-eight (rank ltZ hi v x) (rank-pos z (upper z) v x h (in-among x v i)) (omega (arith, different-length (λ y. ltZ hi y && not (ltZ x y)) v)) .0)
+  mark-eight v few x i (inr h) =
+      rw (below-mark z v x h)
+      (rank-eight (rank (λ y u. ltZ u y) lo v x) (rank-pos z (lower z) v x h (in-among x v i)) (omega (arith, different-length (λ y. ltZ y lo && not (ltZ y x)) v)) .1)
+
+  -- the signed ranks of a pattern are a row of the ranks that its marks have
+  pub pattern-row : (ranks values : List ℤ) → ((x : ℤ) → In x values → In (signedRank (mark lo hi values x)) ranks)
+      → In (map signedRank (pattern lo hi values)) (keep isOwn (rows ranks (length (map signedRank (pattern lo hi values)))))
+  pattern-row ranks values f =
+      in-own ranks (map signedRank (pattern lo hi values))
+      (all-map (λ m. In (signedRank m) ranks) (λ x. In x ranks) signedRank (λ m h. h) (pattern lo hi values)
+      (all-marks z (λ m. In (signedRank m) ranks) values f)) (pattern-own z values)
+
+  pub length-ranks : (values : List ℤ) → length (map signedRank (pattern lo hi values)) ≡ length values
+  length-ranks values = length-map (pattern lo hi values) signedRank ∙ length-pattern z values
+
   pub pattern-outside : (values : List ℤ) → length values ≤ 4 → ((x : ℤ) → In x values → Out lo hi x)
       → In (map signedRank (pattern lo hi values)) (outside (length (map signedRank (pattern lo hi values))))
-  pattern-outside values few beyond =
-      let n = length values in
-      let marks : All (Ranked n) (pattern lo hi values) = pattern-ranked z values beyond in
-      own-outside (map signedRank (pattern lo hi values))
-      (all-map (Ranked n) (λ x. In x eight) signedRank (signed-eight n few) (pattern lo hi values) marks) (pattern-own z values marks)
+  unfolding outside
+  pattern-outside values few beyond = pattern-row eight values (λ x i. mark-eight values few x i (beyond x i))
 
   pub outside-census : (v : ℕ) → v ≤ 4 → Census (IsOutside lo hi v) (outside v)
   outside-census v f =
       record {
         once = outside-once v;
         all = λ r o.
-            let size : length r ≡ v
-            = ap length (sym (o .is)) ∙ length-map (pattern lo hi (o .values)) signedRank ∙ length-pattern z (o .values) ∙ o .size in
+            let size : length r ≡ v = ap length (sym (o .is)) ∙ length-ranks (o .values) ∙ o .size in
             subst (λ n. In r (outside n)) size
             (subst (λ t. In t (outside (length t))) (o .is) (pattern-outside (o .values) (omega (arith, o .size)) (o .beyond)));
         only = λ r h.

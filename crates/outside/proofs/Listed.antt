@@ -1,5 +1,6 @@
--- The list of outside patterns, computed: 2, 8, 44 and 308 entries for one to four variables, in rising order; none stands twice.
-use mathlib.Core.Path.{_≡_, refl}
+-- The list of outside patterns, computed: 2, 8, 44 and 308 entries for one to four variables, in rising order; none stands twice. And
+-- what holds of rows of listed ranks, any list, that are their own.
+use mathlib.Core.Path.{_≡_, refl, sym, ap₂, subst}
 use mathlib.Core.Bool.{Bool, true, not, _&&_}
 use mathlib.Core.List.{List, [], _∷_}
 use mathlib.Core.Logic.{inl, inr}
@@ -10,11 +11,11 @@ use lib.Dec.{T, T-not}
 use Rattle.graph.specs.Lists.{In, Once}
 use Rattle.model.specs.Pattern.{equal, among, different, mark, pattern}
 use Rattle.model.specs.inner.Lists.{All}
-use Rattle.model.proofs.Integers.{and-in, or-left, or-right}
-use Rattle.model.proofs.Ranks.{equal-out}
+use Rattle.model.proofs.Integers.{and-in, and-out, or-left, or-right}
+use Rattle.model.proofs.Ranks.{equal-in, equal-out}
 use Rattle.outside.specs.inner.Rows.{rows, keep, led, bind}
 use Rattle.outside.specs.Outside.{before, allPass, rising, ranksOf, same, isOwn, eight, outside}
-use Rattle.outside.proofs.Rows.{rows-length, rows-all, once-rows, keep-in, once-keep}
+use Rattle.outside.proofs.Rows.{in-rows, rows-length, rows-all, once-rows, keep-in, in-keep, once-keep}
 
 pub outside-numbers : (length (outside 1) ≡ 2) × (length (outside 2) ≡ 8) × (length (outside 3) ≡ 44) × (length (outside 4) ≡ 308)
 unfolding outside isOwn same eight keep rows led bind ranksOf pattern mark different among
@@ -30,7 +31,7 @@ unfolding among
 in-among x (y ∷ l) (inl e) = or-left (equal x y) (among x l) (equal-out x y e)
 in-among x (y ∷ l) (inr h) = or-right (equal x y) (among x l) (in-among x l h)
 
-unfoldable distinct : List ℤ → Bool
+unfoldable pub distinct : List ℤ → Bool
 distinct [] = true
 distinct (x ∷ l) = not (among x l) && distinct l
 
@@ -41,19 +42,46 @@ distinct-once (x ∷ l) h =
     let (p, q) = and-in (not (among x l)) (distinct l) h in
     (λ k. T-not (among x l) p (in-among x l k), distinct-once l q)
 
-once-eight : Once eight
-unfolding distinct eight among
-once-eight = distinct-once eight tt
+-- ---- rows of listed ranks that are their own
+same-in : (r s : List ℤ) → T (same r s) → r ≡ s
+unfolding same
+same-in [] [] h = refl
+same-in [] (y ∷ s) h = absurd h
+same-in (x ∷ r) [] h = absurd h
+same-in (x ∷ r) (y ∷ s) h = let (p, q) = and-in (equal x y) (same r s) h in ap₂ _∷_ (equal-in x y p) (same-in r s q)
+
+same-self : (r : List ℤ) → T (same r r)
+unfolding same
+same-self [] = tt
+same-self (x ∷ r) = and-out (equal x x) (same r r) (equal-out x x refl) (same-self r)
+
+module _ (ranks : List ℤ) where
+  pub own-once : (v : ℕ) → T (distinct ranks) → Once (keep isOwn (rows ranks v))
+  own-once v h = once-keep isOwn (rows ranks v) (once-rows ranks v (distinct-once ranks h))
+
+  pub in-own : (r : List ℤ) → All (λ x. In x ranks) r → ranksOf r ≡ r → In r (keep isOwn (rows ranks (length r)))
+  unfolding isOwn
+  in-own r h own = in-keep isOwn r (rows ranks (length r)) (in-rows ranks r h) (subst (λ t. T (same t r)) (sym own) (same-self r))
+
+  pub own-in : (v : ℕ) (r : List ℤ) → In r (keep isOwn (rows ranks v)) → (length r ≡ v) × All (λ x. In x ranks) r × (ranksOf r ≡ r)
+  unfolding isOwn
+  own-in v r h =
+      let (i, own) = keep-in isOwn r (rows ranks v) h in
+      (rows-length ranks v r i, rows-all ranks v r i, same-in (ranksOf r) r own)
 
 -- ---- the entries
 pub outside-once : (v : ℕ) → Once (outside v)
-unfolding outside
-outside-once v = once-keep isOwn (rows eight v) (once-rows eight v once-eight)
+unfolding outside eight distinct among
+outside-once v = own-once eight v tt
 
 pub outside-width : (v : ℕ) (r : List ℤ) → In r (outside v) → length r ≡ v
 unfolding outside
-outside-width v r h = rows-length eight v r (keep-in isOwn r (rows eight v) h .0)
+outside-width v r h = own-in eight v r h .0
 
 pub outside-eight : (v : ℕ) (r : List ℤ) → In r (outside v) → All (λ x. In x eight) r
 unfolding outside
-outside-eight v r h = rows-all eight v r (keep-in isOwn r (rows eight v) h .0)
+outside-eight v r h = own-in eight v r h .1
+
+pub outside-own : (v : ℕ) (r : List ℤ) → In r (outside v) → ranksOf r ≡ r
+unfolding outside
+outside-own v r h = own-in eight v r h .2

@@ -3,9 +3,10 @@ use mathlib.Core.Path.{_≡_, refl, sym, ap, _∙_, subst}
 use mathlib.Core.Bool.{Bool, true, false}
 use mathlib.Core.List.{List, [], _∷_, _++_, map}
 use mathlib.Core.Logic.{_⊎_, inl, inr}
-use Prim.Native.Nat.{ℕ, zero, suc, _≤_}
+use Prim.Native.Nat.{ℕ, zero, suc, _*_, _^_, _≤_}
+use native.Mathlib.Nat.{suc-mul, pow-zero, pow-succ'}
 use native.Mathlib.Omega.{arith}
-use lib.ListN.{length}
+use lib.ListN.{length, length-append, length-map}
 use lib.Dec.{T}
 use Rattle.graph.specs.Lists.{In, Once}
 use Rattle.graph.proofs.Counting.{in-map, map-in, once-map}
@@ -51,6 +52,11 @@ module _ {A B : Type 0} (f : A → List B) where
       once-append (f c) (bind f l) (each c (inl refl)) (once-bind key tells l (o .1) (λ a h. each a (inr h)))
       (λ b h k. let (a, p, q) = bind-in b l k in o .0 (subst (λ (x : A). In x l) (sym (tells a b q) ∙ tells c b h) p))
 
+  pub length-bind : (n : ℕ) → ((a : A) → length (f a) ≡ n) → (l : List A) → length (bind f l) ≡ length l * n
+  unfolding bind
+  length-bind n each [] = omega arith
+  length-bind n each (c ∷ l) = omega (arith, length-append (f c) (bind f l), each c, length-bind n each l, suc-mul (length l) n)
+
 module _ {A : Type 0} where
   head : A → List A → A
   head d [] = d
@@ -80,6 +86,10 @@ module _ {A : Type 0} where
       (λ a b h. let (t, k, e) = map-in (λ t. a ∷ t) b tails h in ap (head d) (sym e))
       (d ∷ heads) o (λ a h. once-map (λ t. a ∷ t) tails p (λ s t h k e. ap tailed e))
 
+  pub length-led : (heads : List A) (tails : List (List A)) → length (led heads tails) ≡ length heads * length tails
+  unfolding led
+  length-led heads tails = length-bind (λ a. map (λ t. a ∷ t) tails) (length tails) (λ a. length-map tails (λ t. a ∷ t)) heads
+
   -- ---- all rows of n elements
   pub in-rows : (l r : List A) → All (λ x. In x l) r → In r (rows l (length r))
   unfolding rows
@@ -105,8 +115,21 @@ module _ {A : Type 0} where
   once-rows l zero o = (λ h. h, tt)
   once-rows l (suc n) o = once-led l (rows l n) o (once-rows l n o)
 
+  pub length-rows : (l : List A) (n : ℕ) → length (rows l n) ≡ length l ^ n
+  unfolding rows
+  length-rows l zero = sym (pow-zero (length l))
+  length-rows l (suc n) = length-led l (rows l n) ∙ ap (λ k. length l * k) (length-rows l n) ∙ sym (pow-succ' (length l) n)
+
   -- ---- what a test keeps
   module _ (p : A → Bool) where
+    pub keep-skips : (x : A) (l : List A) → p x ≡ false → keep p (x ∷ l) ≡ keep p l
+    unfolding keep
+    keep-skips x l e = ap (λ b. elim b [ true ↦ x ∷ keep p l | false ↦ keep p l ]) e
+
+    pub keep-beside : (x : A) (l m : List A) → keep p l ≡ keep p m → keep p (x ∷ l) ≡ keep p (x ∷ m)
+    unfolding keep
+    keep-beside x l m e = ap (λ t. elim (p x) [ true ↦ x ∷ t | false ↦ t ]) e
+
     pub keep-in : (x : A) (l : List A) → In x (keep p l) → In x l × T (p x)
     unfolding keep
     keep-in x [] h = absurd h
