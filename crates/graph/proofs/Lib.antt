@@ -1,6 +1,7 @@
 pub mod Counting
 pub mod Table
 pub mod Distances
+pub mod Levels
 pub mod Complete
 pub mod Wanted
 pub mod Search
