@@ -1,5 +1,6 @@
 pub mod FaultyLines
 pub mod Tests
+pub mod Standing
 pub mod RowLaws
 pub mod SortLaws
 pub mod SignedLaws

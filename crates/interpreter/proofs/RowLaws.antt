@@ -6,13 +6,12 @@ use mathlib.Core.List.{List, [], _∷_, map}
 use Prim.Native.Nat.{ℕ, zero, suc, _-_, _≤_, _<_}
 use native.Mathlib.Omega.{arith}
 use lib.IntN.{ℤ}
-use lib.Signed.{ltZ}
 use lib.ListN.{length, getD, take, length-take, length-map}
 use lib.Seq.{getD-take}
 use Rattle.model.specs.Language.{Instruction, stop, instruction, fields}
 use Rattle.model.specs.Machine.{State, value, stepBy}
-use Rattle.model.proofs.View.{onTape, taken, stepView, step-by}
-use Rattle.model.specs.inner.View.{View, reads, sets, tests, goes, stops as ends, view, term, Targeted}
+use Rattle.model.proofs.View.{step-by}
+use Rattle.model.specs.inner.View.{view}
 use Rattle.flow.specs.Legal.{Legal, head}
 use Rattle.flow.specs.Read.{all, isNamed}
 use Rattle.flow.specs.declared.Flow.{Flow as Rows}
@@ -22,6 +21,7 @@ use Rattle.flow.specs.declared.Kind.the-variants.{Put}
 use Rattle.flow.specs.Words.{built}
 use Rattle.flow.proofs.RowLaws.{tried}
 use Rattle.flow.proofs.Tests.{named-targets}
+use Rattle.flow.proofs.Standing.{step-targeted}
 use Rattle.flow.specs.inner.Rows.{instructionOf, flowOf, numbersIn}
 use Rattle.interpreter.proofs.Narrow.{ranges-fit, fit-more}
 use Rattle.interpreter.specs.inner.Arrays.{FieldsFit, RowFits, countAt, stops, outputs}
@@ -55,23 +55,8 @@ module _ (count : ℕ) (s : State) where
   abbrev Named : ℕ → Type 0
   Named n = (1 ≤ n) × (n ≤ count)
 
-  named-read : (l : List ℤ) (a v p m : ℕ) → Named p → Named m → Named (taken l a v p m s .next)
-  named-read [] a v p m hp hm = hm
-  named-read (x ∷ rest) a v p m hp hm = hp
-
-  named-either : (b : Bool) (p m : ℕ) → Named p → Named m → Named (cond b p m)
-  named-either true p m hp hm = hp
-  named-either false p m hp hm = hm
-
-  leads : (x : View) → Targeted Named x → Named (s .next) → Named (stepView x s .next)
-  leads (reads a v p m) h here = named-read (onTape s a) a v p m (h .0) (h .1)
-  leads (sets t v n) h here = h
-  leads (tests t u p m) h here = named-either (ltZ (term (s .variables) t) (term (s .variables) u)) p m (h .0) (h .1)
-  leads (goes n) h here = h
-  leads ends h here = here
-
   pub leads-on : (i : Instruction) → all (isNamed count) (fields i) ≡ true → Named (s .next) → Named (stepBy i s .next)
-  leads-on i e here = rw (step-by i s) (leads (view i) (named-targets Named count (λ n h. h) i e) here)
+  leads-on i e here = rw (step-by i s) (step-targeted Named s (view i) (named-targets Named count (λ n h. h) i e) here)
 
 -- ---- the rows of a legal flow
 
