@@ -10,9 +10,6 @@ ghost use Rattle.cells.specs.inner.Entries.{entriesOf, FilledIn, LatestI
 ghost use Rattle.cells.specs.inner.Marks.{isMarked, marking};
 ghost use Rattle.cells.specs.inner.Way.{Parents, Traced};
 
-// At most so many cells are used.
-const MOST: usize = 65536;
-
 // How many numbers half a word holds.
 const HALF: u64 = 4294967296;
 
@@ -26,6 +23,9 @@ pub enum Found {
 pub struct Cell;
 
 impl Cell {
+    // At most so many cells are used.
+    pub const MOST: usize = 65536;
+
     pub const WORDS: usize = 10;
 
     pub const PLACE: usize = 0;
@@ -114,7 +114,7 @@ pub fn put(cells: &mut [[u32; Cell::WORDS]], i: usize, f: usize, x: u32)
 pub fn cells_of(cells: &[[u32; Cell::WORDS]]) -> usize
     ensures { λ r. ⌜ r ≡ cellsOf (now (cells .entry)) ⌝ }
 {
-    lesser(MOST, cells.len())
+    lesser(Cell::MOST, cells.len())
 }
 
 // Zeroes every word of every cell.

@@ -13,7 +13,7 @@ use Rattle.model.specs.Machine.{Exit}
 use Rattle.model.specs.Distance.{Distance, NoDistance}
 use Rattle.model.specs.Configuration.{Configuration, Reachable}
 use Rattle.model.proofs.Graph.{Edge, origin, Reach, first, further}
-use Rattle.model.proofs.Theorems.{Leads, distance-of-paths, none-of-paths, reachable-reach, reach-reachable}
+use Rattle.model.proofs.Theorems.{Leads, distance-of-paths, paths-of-distance, none-of-paths, reachable-reach, reach-reachable}
 use Rattle.model.specs.inner.View.{LegalFlow}
 
 abbrev pub configurations : (lo hi : ℤ) → Flow → Graph Configuration (Option Exit)
@@ -58,6 +58,11 @@ module _ {lo hi : ℤ} {flow : Flow} where
 module _ {lo hi : ℤ} {flow : Flow} (l : LegalFlow lo hi flow) where
   pub distance-of-exit : (i : ℕ) (e : Exit) (d : ℕ) → ExitDistance (configurations lo hi flow) (Taking i e) d → Distance flow i e d
   distance-of-exit i e d x = distance-of-paths l i e d (leads-of-exit (x .exit)) (λ k p. x .least k (exit-of-leads p))
+
+  pub exit-of-distance : (i : ℕ) (e : Exit) (d : ℕ) → Distance flow i e d → ExitDistance (configurations lo hi flow) (Taking i e) d
+  exit-of-distance i e d x =
+      let (p, least) = paths-of-distance l i e d x in
+      record { exit = exit-of-leads p; least = λ k y. least k (leads-of-exit y) }
 
   pub none-of-exit : (i : ℕ) (e : Exit) → NoExit (configurations lo hi flow) (Taking i e) → NoDistance flow i e
   none-of-exit i e never = none-of-paths l i e (λ k p. never k (exit-of-leads p))

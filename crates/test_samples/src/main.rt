@@ -36,7 +36,7 @@ fn ask_few(text: &[u8], i: usize, p: bool, row: &mut [i32]) -> SampleAnswer {
 }
 
 fn ask_many(text: &[u8], i: usize, p: bool, row: &mut [i32]) -> SampleAnswer {
-    let mut cells = [[0u32; Cell::WORDS]; test_show::MOST_CELLS];
+    let mut cells = [[0u32; Cell::WORDS]; Cell::MOST];
     tape_maker::sample(text, i, p, &mut cells, row)
 }
 

@@ -48,11 +48,8 @@ pub fn report_of(text: &[u8]) {
     print(&lines[0..n]);
 }
 
-// More cells do not count.
-pub const MOST_CELLS: usize = 65536;
-
 // The report of a flow, with 65,536 cells lent.
 pub fn report_of_most(text: &[u8]) {
-    let mut cells = [[0u32; Cell::WORDS]; MOST_CELLS];
+    let mut cells = [[0u32; Cell::WORDS]; Cell::MOST];
     report(tape_maker::report(text, &mut cells));
 }
