@@ -15,7 +15,7 @@ use Rattle.model.specs.Distance.{Distance}
 use Rattle.flow.specs.Limits.{maxInstructions, leastConstant, greatestConstant}
 use Rattle.flow.specs.declared.Refusal.the-variants.{ShortRow}
 use Rattle.configuration.specs.inner.Op.{opOf}
-use Rattle.configuration.specs.inner.Pattern.{Width}
+use Rattle.pattern_word.specs.inner.Pattern.{Width}
 use Rattle.configuration.specs.declared.Op.{Op}
 use Rattle.flow.proofs.LimitLaws.{legal-limited}
 use Rattle.configuration.proofs.Fitting.{fit-legal}

@@ -25,7 +25,7 @@ use Rattle.model.specs.inner.Runs.{wider}
 use Rattle.sample_row.specs.inner.Reading.{silentValues, silentAfter}
 use Rattle.sample_row.specs.declared.Walk.{Walk}
 use Rattle.sample_row.proofs.Followed.{SilentStep}
-use Rattle.configuration.specs.inner.Pattern.{maxWidth, lanes, valuesOf}
+use Rattle.pattern_word.specs.inner.Pattern.{maxWidth, lanes, valuesOf}
 use Rattle.configuration.specs.inner.Place.{atOf, endsOf, goOf, finishOf, configurationOf}
 use Rattle.constants.specs.inner.Constants.{offset}
 use Rattle.configuration.specs.inner.Op.{opOf}
@@ -35,14 +35,15 @@ use Rattle.configuration.specs.declared.Words.{Words}
 use Rattle.configuration.specs.declared.Op.{Op}
 use Rattle.configuration.specs.declared.Action.{Action}
 use Rattle.configuration.specs.declared.Action.the-variants.{Read, Assign, Test, Go, Stop}
-use Rattle.configuration.proofs.Span.{inside-real}
+use Rattle.pattern_word.proofs.Span.{inside-real}
 use Rattle.constants.proofs.Offsets.{offset-is}
-use Rattle.configuration.proofs.Lanes.{length-values-of}
+use Rattle.pattern_word.proofs.FourLanes.{length-values-of}
 use Rattle.configuration.proofs.Prepared.{op-constant}
 use Rattle.configuration.proofs.Places.{ends-go, ends-finish, length-ends}
 use Rattle.configuration.proofs.Means.{Names, Means, means-reads, means-sets, means-tests, means-goes, means-stops, means, read-view}
 use Rattle.configuration.proofs.Steps.{spread-words, marks-stay}
-use Rattle.configuration.specs.inner.Fits.{real, FlowFits, ProperWords}
+use Rattle.pattern_word.specs.inner.Span.{real}
+use Rattle.configuration.specs.inner.Fits.{FlowFits, ProperWords}
 use Rattle.search_table.specs.inner.Way.{isRead}
 use Rattle.sample.specs.inner.Steps.{wishOf, takesRecord, termIn, valuesBy, quietWalk, OpFits}
 

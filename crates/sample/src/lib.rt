@@ -8,8 +8,8 @@ ghost use Rattle.model.specs.Language.{Flow as FlowOf};
 ghost use Rattle.model.specs.Machine.{exitIf};
 ghost use Rattle.configuration.specs.inner.Place.{words};
 ghost use Rattle.outside_row.specs.inner.Table.{IsTable};
-ghost use Rattle.configuration.specs.inner.Pattern.{Width};
-ghost use Rattle.configuration.specs.inner.Fits.{real};
+ghost use Rattle.pattern_word.specs.inner.Pattern.{Width};
+ghost use Rattle.pattern_word.specs.inner.Span.{real};
 ghost use Rattle.sample_row.specs.inner.Moves.{Movable};
 ghost use Rattle.sample_row.specs.inner.Reading.{Ready};
 ghost use Rattle.cells.specs.inner.Columns.{placeField, patternField, wayField, column, wordColumn, columnsOf};
@@ -24,7 +24,6 @@ use cells::Found;
 use configuration::Action;
 use configuration::Op;
 use configuration::Words;
-use configuration::pattern;
 use configuration::place;
 use flow::Flow;
 use flow::Refusal;
@@ -61,7 +60,7 @@ fn wish_of(table: &[u16], word: u64, w: u64, lo: i32) -> [i32; Flow::VARIABLES]
     requires { ⌜ Low lo ⌝ }
     ensures { λ r. ⌜ r ≡ wishOf lo w word ⌝ }
 {
-    let values = pattern::held(table, word, w);
+    let values = pattern_word::held(table, word, w);
     let a = real(values[0], lo);
     let b = real(values[1], lo);
     let c = real(values[2], lo);

@@ -10,15 +10,16 @@ use native.Mathlib.Nat.{eq-or-lt-of-le}
 use native.Mathlib.Omega.{arith}
 use lib.ListN.{length}
 use Rattle.model.specs.Machine.{p-exit}
-use Rattle.configuration.specs.inner.Pattern.{Width, lanes, low, valuesOf, assignOf, firstTrial, lastTrial}
+use Rattle.pattern_word.specs.inner.Pattern.{Width, lanes, low, valuesOf, assignOf, firstTrial, lastTrial}
 use Rattle.configuration.specs.inner.Place.{words}
 use Rattle.configuration.specs.inner.Step.{endedOf, nextOf, takeOf, memberOf}
-use Rattle.configuration.specs.inner.Graph.{Trial, WordEdge, moves, takes}
+use Rattle.pattern_word.specs.inner.Span.{Trial}
+use Rattle.configuration.specs.inner.Graph.{WordEdge, moves, takes}
 use Rattle.configuration.specs.declared.Words.{Words}
 use Rattle.configuration.specs.declared.Op.{Op}
 use Rattle.configuration.specs.declared.Action.{Action}
 use Rattle.configuration.specs.declared.Action.the-variants.{Read, Assign, Test, Go, Stop}
-use Rattle.configuration.proofs.Trials.{trial-fits, trial-told}
+use Rattle.pattern_word.proofs.Trials.{trial-fits, trial-told}
 use Rattle.configuration.proofs.Members.{member-edge, edge-closed, first-again}
 use Rattle.cells.specs.inner.Columns.{Rows}
 use Rattle.cells.specs.inner.Entries.{Entries, entriesOf, Filled}

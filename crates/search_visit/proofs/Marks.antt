@@ -10,7 +10,7 @@ use lib.ListN.{length}
 use Rattle.graph.proofs.Table.{held-kept}
 use Rattle.graph.specs.inner.Table.{Table, Held, Extends}
 use Rattle.configuration.specs.inner.Step.{memberOf}
-use Rattle.configuration.specs.inner.Graph.{Trial}
+use Rattle.pattern_word.specs.inner.Span.{Trial}
 use Rattle.configuration.specs.declared.Words.{Words}
 use Rattle.cells.specs.inner.Columns.{marksField, Rows, columnsOf, Only}
 use Rattle.cells.specs.inner.Entries.{entriesOf}

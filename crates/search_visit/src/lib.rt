@@ -6,7 +6,7 @@
 ghost use mathlib.Core.Path.{_≡_};
 ghost use Prim.Native.Nat.{_<_};
 ghost use Rattle.outside_row.specs.inner.Table.{IsTable};
-ghost use Rattle.configuration.specs.inner.Pattern.{Width, low, assignOf};
+ghost use Rattle.pattern_word.specs.inner.Pattern.{Width, low, assignOf};
 ghost use Rattle.cells.specs.inner.Columns.{columnsOf};
 ghost use Rattle.cells.specs.inner.Entries.{FilledIn};
 ghost use Rattle.search_visit.specs.inner.Visit.{VisitedIn, grownOf};
@@ -16,7 +16,6 @@ use cells::Found;
 use configuration::Action;
 use configuration::Op;
 use configuration::Words;
-use configuration::pattern;
 use configuration::place;
 
 // What a visit leads to: the entry and the number of entries.
@@ -90,12 +89,12 @@ fn members(
     ensures { λ r. ⌜ MembersIn w v first (now (cells .entry)) (now (cells .exit)) count size d k r ⌝ }
     ensures { λ r. ⌜ FreshIn (now (cells .entry)) (now (cells .exit)) count r ⌝ }
 {
-    let values = pattern::held(table, first.pattern, w);
-    let last = pattern::last_trial(values, w);
+    let values = pattern_word::held(table, first.pattern, w);
+    let last = pattern_word::last_trial(values, w);
     let mut n = count;
-    let mut y = pattern::first_trial(values);
+    let mut y = pattern_word::first_trial(values);
     while y <= last {
-        let q = pattern::fan_at(table, first.pattern, values, w, v, y);
+        let q = pattern_word::fan_at(table, first.pattern, values, w, v, y);
         let member = Words {
             place: first.place,
             pattern: q,
@@ -156,7 +155,7 @@ pub fn fan(
     if !opens(op, x) {
         return Grown::To(count);
     }
-    let first = configuration::take(table, op, w, x, Words::LOW);
+    let first = configuration::take(table, op, w, x, pattern_word::LOW);
     let s = visit(cells, count, size, d, k, first);
     let Visited::At(i, n) = s else {
         return Grown::Full;

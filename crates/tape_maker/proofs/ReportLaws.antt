@@ -19,7 +19,7 @@ use Rattle.flow.specs.declared.Refusal.the-variants.{TooFewCells}
 use Rattle.flow.specs.declared.Flow.{Flow as FlowRows}
 use Rattle.flow.specs.inner.Rows.{instructionOf, flowOf}
 use Rattle.configuration.specs.inner.Op.{opOf}
-use Rattle.configuration.specs.inner.Pattern.{Width}
+use Rattle.pattern_word.specs.inner.Pattern.{Width}
 use Rattle.configuration.specs.inner.Place.{configurationOf}
 use Rattle.configuration.specs.inner.Step.{startOf}
 use Rattle.configuration.specs.declared.Op.{Op}

@@ -1,27 +1,17 @@
 -- What is asked of a flow and of words: that the flow fits the words, and that the words stand for a configuration of the flow.
 use mathlib.Core.Path.{_≡_}
 use mathlib.Core.Bool.{false}
-use Prim.Native.Nat.{ℕ, _+_, _-_, _<_, _≤_}
-use lib.IntN.{ℤ, pos, negsuc, _+ℤ_}
+use Prim.Native.Nat.{ℕ, _-_, _<_, _≤_}
+use lib.IntN.{ℤ, pos}
 use lib.ListN.{drop, replicate}
-use Rattle.model.specs.inner.Integers.{up, dn, Inside}
 use Rattle.model.specs.Language.{Flow}
 use Rattle.model.specs.inner.View.{viewAt, LegalFlow, Targeted}
 use Rattle.flow.specs.Limits.{maxTapes, maxVariables}
-use Rattle.configuration.specs.inner.Pattern.{Width, lanes, Valid}
+use Rattle.pattern_word.specs.inner.Pattern.{lanes, Valid}
 use Rattle.configuration.specs.inner.Place.{endsOf}
 use Rattle.constants.specs.inner.Constants.{offset}
 use Rattle.configuration.specs.declared.Words.{Words}
-
--- lo to hi are w whole numbers, 0 among them
-pub record Span (lo hi : ℤ) (w : ℕ) : Type 0 where
-  pub width : Width w
-  pub zero : Inside lo hi (pos 0)
-  pub edge : up lo + w + dn hi ≡ up hi + 1 + dn lo
-
--- the whole number that the value x of a search stands for: `low`, 16, stands for lo
-abbrev pub real : ℤ → ℕ → ℤ
-real lo x = (lo +ℤ negsuc 15) +ℤ pos x
+use Rattle.pattern_word.specs.inner.Span.{Span}
 
 -- a number that a place word has room for
 abbrev pub FitsPlace : ℕ → Type 0

@@ -2,7 +2,7 @@
 use mathlib.Core.Path.{_≡_}
 use mathlib.Core.Bool.{false}
 use mathlib.Core.Option.{Option, some}
-use Prim.Native.Nat.{ℕ, zero, suc, _+_, _≤_}
+use Prim.Native.Nat.{ℕ, zero, suc}
 use lib.IntN.{ℤ}
 use Rattle.model.specs.Language.{Flow, instruction}
 use Rattle.model.specs.Machine.{Exit, p-exit}
@@ -12,11 +12,7 @@ use Rattle.configuration.specs.inner.Step.{nextOf, takeOf, wordExitOf, e
 use Rattle.configuration.specs.declared.Words.{Words}
 use Rattle.configuration.specs.declared.Op.{Op}
 use Rattle.configuration.specs.declared.Action.the-variants.{Read}
-
--- trial records reach 9 beyond C1 and C2: two for each of four variables, and one
-pub record Trial (w y : ℕ) : Type 0 where
-  pub first : 7 ≤ y
-  pub last : y ≤ w + 24
+use Rattle.pattern_word.specs.inner.Span.{Trial}
 
 pub data WordEdge (w : ℕ) (op : Op) (x : Words) : Option Exit → Words → Type 0 where
   moves : WordEdge w op x (wordExitOf w op x) (nextOf w op x)

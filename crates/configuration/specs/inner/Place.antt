@@ -9,8 +9,8 @@ use lib.Dec.{eqb}
 use Rattle.model.specs.Language.{Flow}
 use Rattle.model.specs.Configuration.{Configuration}
 use Rattle.flow.specs.Limits.{maxTapes}
-use Rattle.configuration.specs.inner.Digits.{digits, undigits}
-use Rattle.configuration.specs.inner.Pattern.{lanes, markOf}
+use Rattle.pattern_word.specs.inner.Digits.{digits, undigits}
+use Rattle.pattern_word.specs.inner.Pattern.{lanes, markOf}
 use Rattle.configuration.specs.declared.Words.{Words}
 
 abbrev pub words : (place pattern : ℕ) → Words

@@ -8,8 +8,8 @@ use lib.ListN.{getD, replicate}
 use lib.Dec.{ltb}
 use Rattle.model.specs.Machine.{Exit, p-exit, m-exit, exitIf}
 use Rattle.flow.specs.Limits.{maxVariables}
-use Rattle.configuration.specs.inner.Digits.{undigits}
-use Rattle.configuration.specs.inner.Pattern.{lane, lanes, valueOf, lessOf, assignOf}
+use Rattle.pattern_word.specs.inner.Digits.{undigits}
+use Rattle.pattern_word.specs.inner.Pattern.{lane, lanes, valueOf, lessOf, assignOf}
 use Rattle.configuration.specs.inner.Place.{words, endsOf, goOf, finishOf}
 use Rattle.constants.specs.inner.Constants.{offset}
 use Rattle.configuration.specs.declared.Words.{Words}

@@ -7,13 +7,13 @@ use lib.ListN.{getD, set}
 use lib.Dec.{T, ltb}
 use lib.Signed.{leZ}
 use Rattle.flow.specs.Limits.{maxTapes, maxVariables, leastConstant}
-use Rattle.configuration.specs.inner.Pattern.{maxWidth, lanes, valuesOf}
+use Rattle.pattern_word.specs.inner.Pattern.{maxWidth, lanes, valuesOf}
 use Rattle.configuration.specs.inner.Step.{endedOf}
 use Rattle.configuration.specs.declared.Words.{Words}
 use Rattle.configuration.specs.declared.Op.{Op}
 use Rattle.configuration.specs.declared.Action.{Action}
 use Rattle.configuration.specs.declared.Action.the-variants.{Read, Assign, Test, Go, Stop}
-use Rattle.configuration.specs.inner.Fits.{real}
+use Rattle.pattern_word.specs.inner.Span.{real}
 use Rattle.search_table.specs.inner.Way.{isRead}
 use Rattle.sample_row.specs.inner.Choices.{chosen}
 use Rattle.sample_row.specs.inner.Reading.{walkAfter, rowAfter}

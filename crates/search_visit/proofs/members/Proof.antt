@@ -5,8 +5,8 @@ use Prim.Native.Nat.{_+_, _-_, _≤_}
 use native.Mathlib.Omega.{arith}
 use lib.ListN.{length}
 use borrow.Author.Needs.{needs}
-use Rattle.configuration.specs.inner.Pattern.{low, high, leastOf, greatestOf, firstTrial, lastTrial}
-use Rattle.configuration.proofs.Trials.{least-fits, greatest-fits}
+use Rattle.pattern_word.specs.inner.Pattern.{low, high, leastOf, greatestOf, firstTrial, lastTrial}
+use Rattle.pattern_word.proofs.Trials.{least-fits, greatest-fits}
 use Rattle.cells.specs.inner.Columns.{marksField, column, columnsOf}
 use Rattle.cells.specs.inner.Entries.{entriesOf}
 use Rattle.cells.specs.inner.Marks.{Unmarked}

@@ -7,9 +7,10 @@ use Prim.Native.Nat.{ℕ, _<_, _≤_}
 use lib.ListN.{length}
 use Rattle.model.specs.Machine.{Exit}
 use Rattle.flow.specs.Limits.{maxVariables}
-use Rattle.configuration.specs.inner.Pattern.{Width, low, Valid}
+use Rattle.pattern_word.specs.inner.Pattern.{Width, low, Valid}
 use Rattle.configuration.specs.inner.Step.{takeOf, memberOf, endedOf}
-use Rattle.configuration.specs.inner.Graph.{Trial, WordEdge}
+use Rattle.pattern_word.specs.inner.Span.{Trial}
+use Rattle.configuration.specs.inner.Graph.{WordEdge}
 use Rattle.configuration.specs.declared.Words.{Words}
 use Rattle.configuration.specs.declared.Op.{Op}
 use Rattle.configuration.specs.declared.Action.{Action}

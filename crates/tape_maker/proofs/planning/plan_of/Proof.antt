@@ -10,7 +10,7 @@ use Rattle.model.specs.Language.{C1, C2}
 use Rattle.model.specs.Pattern.{widthOf}
 use Rattle.constants.specs.inner.Constants.{offset}
 use Rattle.configuration.specs.inner.Op.{opOf}
-use Rattle.configuration.specs.inner.Pattern.{lane}
+use Rattle.pattern_word.specs.inner.Pattern.{lane}
 use Rattle.configuration.specs.inner.Step.{startOf}
 use Rattle.configuration.proofs.Fitting.{fit-legal}
 use Rattle.configuration.proofs.Reaches.{start-fits}

@@ -1,0 +1,10 @@
+pub mod Digits
+pub mod Ranks
+pub mod Cases
+pub mod Span
+pub mod Marks
+pub mod Stored
+pub mod Recalled
+pub mod FourLanes
+pub mod Fans
+pub mod Trials
