@@ -1,9 +1,10 @@
 # make report FLOW=flows/a.flow   the report of a flow
+# make bound FLOW=flows/a.flow    how many cells a flow takes at most
 # make test                       all that the gate runs; the last line is `N passed, 0 failed`
 # make lib                        the static library for C and Rust: target/staticlib/libtilsando.a
 # make examples                   builds and runs the makers' programs in C and in Rust
 # make outside SEED=1             library and program against a second implementation, on generated texts, tapes and samples
-# make inputs                     report and the makers' programs on inputs that come in pieces, have no bytes or cannot be read
+# make inputs                     report, bound and the makers' programs on inputs that come in pieces, have no bytes or cannot be read
 # make bench                      the library against plain Rust: the tables of docs/BENCHMARKS.md
 # make bench BEFORE=old.a         the same, and against an older library with the same interface
 
@@ -14,21 +15,24 @@ CC ?= cc
 RUSTC ?= rustc
 LINKED = $(RUSTC) --edition 2021 -C opt-level=3 -L native=target/staticlib -l static=tilsando
 
-.PHONY: report program test lib examples outside inputs bench
+.PHONY: report bound program test lib examples outside inputs bench
 
 report: program
 	@target/bin/report < $(FLOW)
 
-# Only what is proved is built, so the first time takes some minutes.
+bound: program
+	@target/bin/bound < $(FLOW)
+
+# The programs report and bound. Only what is proved is built, so the first time takes some minutes.
 program:
-	@tools/proving check report
+	@tools/proving check report bound
 
 lib:
 	@tools/proving staticlib tilsando
 	@echo target/staticlib/libtilsando.a
 
 inputs: program examples
-	@python3 tests/inputs.py target/bin/report target/examples/c target/examples/rust
+	@python3 tests/inputs.py target/bin/report target/bin/bound target/examples/c target/examples/rust
 
 examples: lib
 	@tools/examples "$(CC)" "$(RUSTC)"
@@ -36,7 +40,7 @@ examples: lib
 outside: lib program
 	@mkdir -p target/rust
 	@$(LINKED) -o target/rust/outside tests/outside/src/main.rs
-	@REPORT=target/bin/report target/rust/outside $(SEED)
+	@REPORT=target/bin/report BOUND=target/bin/bound target/rust/outside $(SEED)
 
 # Of an older library two functions are kept, under other names, so that both are linked.
 bench: lib
@@ -53,6 +57,7 @@ test:
 	@rt fmt --check
 	@python3 tests/readings.py
 	@python3 tests/reports.py
+	@python3 tests/bounds.py
 	@python3 tests/tables.py
 	@tests/gate.sh
 	@tools/gate

@@ -55,6 +55,12 @@ pub(crate) use calls;
 
 calls!(ffi::tilsando_run, ffi::tilsando_report);
 
+pub fn bound(text: &[u8]) -> Told {
+    let mut told = Told::NOTHING;
+    let returned = unsafe { ffi::tilsando_bound(text.as_ptr(), text.len(), told.answer.as_mut_ptr(), 1) };
+    Told { returned, ..told }
+}
+
 pub fn sample(text: &[u8], instruction: u64, exit: bool, cells: &mut [Cell], row: &mut [i32]) -> Told {
     let mut told = Told::NOTHING;
     #[rustfmt::skip]

@@ -107,6 +107,17 @@ fn told(answer: Result<Ran, Refusal>) -> Told {
     }
 }
 
+/// The bound of a flow.
+fn bound(what: &str, text: Vec<u8>) -> Compared {
+    let calls = 300_000 / text.len() as u64;
+    let answer = plain::bound(&text).expect("the flow is legal").unwrap_or(0);
+    assert_eq!(library::bound(&text), Told { answer: [answer, 0, 0, 0, 0], ..Told::NOTHING }, "bound, {what}: both answer the same");
+    let ours = |text: &mut Vec<u8>| each(calls, || library::bound(black_box(text)));
+    let plain = |text: &mut Vec<u8>| each(calls, || plain::bound(black_box(text)));
+    let what = format!("bound, {what}, {} bytes", text.len());
+    line(&what, in_turn(&mut { text }, ours, plain))
+}
+
 /// Reports by the library, in n cells or as many as it takes.
 fn ours(n: usize) -> impl Fn(&mut [Cell], &Flow) -> Told {
     move |cells, flow| library::report(black_box(&flow.text), &mut cells[..n.max(flow.k)])
@@ -215,6 +226,8 @@ fn main() {
     let endless = Run::long("comparisons and copies", flows::endless(), &[&[]]);
     head("Request", "Library", "Plain Rust");
     let readings = [&longest, &fullest, &short].map(|run| run.against(plain::running::run, told));
+    bound("64 instructions", flows::longest());
+    bound("flow A", flows::short());
     let runs = [&merge, &endless].map(|run| run.against(plain::running::run, told));
     let reports: Vec<Compared> = all.iter().map(|s| report(cells, s)).collect();
     sample(cells, "between earlier records", &flows::squeeze(15), 62, all[10].flow);

@@ -1,13 +1,15 @@
-/* Prints the report of the flow in a file; then for each exit a sample, and whether the run on its tapes takes the exit. A file without
+/* Prints how many cells the flow in a file takes at most, lends as many, and prints its report; then for each exit a sample, and whether the run on its tapes takes the exit. A file without
  * bytes is a flow, so one that cannot be read must not be taken for it. */
 #include <inttypes.h>
 #include <stdio.h>
+#include <stdlib.h>
 #include "tilsando.h"
 
 #define CELLS TILSANDO_CELLS
 #define EACH TILSANDO_INSTRUCTIONS
 static uint8_t text[TILSANDO_BYTES + 1], two[EACH], numbers[CELLS];
-static uint32_t cells[CELLS][TILSANDO_CELL_WORDS], p[EACH], m[EACH], taken_p[EACH], taken_m[EACH];
+static uint32_t (*cells)[TILSANDO_CELL_WORDS], p[EACH], m[EACH], taken_p[EACH], taken_m[EACH];
+static size_t lent;
 static int32_t row[CELLS], values[CELLS];
 static uint64_t answer[TILSANDO_SAMPLE_SIZE];
 
@@ -17,7 +19,7 @@ static void print_exit(uint64_t i, char exit, uint32_t distance) {
 
 /* The tapes one after another, as `(6,9)()`. */
 static void try_exit(size_t n, uint64_t i, char exit) {
-    uint32_t why = tilsando_sample(text, n, i, exit == 'p', cells, CELLS, row, CELLS, answer, TILSANDO_SAMPLE_SIZE);
+    uint32_t why = tilsando_sample(text, n, i, exit == 'p', cells, lent, row, CELLS, answer, TILSANDO_SAMPLE_SIZE);
     printf("sample,%" PRIu64 ",%c,", i, exit);
     uint64_t distance = answer[TILSANDO_SAMPLE_DISTANCE], part[TILSANDO_TAPE_SIZE];
     if (why || !distance) {
@@ -45,7 +47,16 @@ int main(int argc, char **argv) {
     size_t n = file ? fread(text, 1, sizeof text, file) : 0;
     if (!file || ferror(file))
         return fputs("the flow cannot be read\n", stderr), 2;
-    uint32_t why = tilsando_report(text, n, cells, CELLS, two, EACH, p, EACH, m, EACH, answer, TILSANDO_REPORT_SIZE);
+    uint32_t why = tilsando_bound(text, n, answer, TILSANDO_BOUND_SIZE);
+    if (why)
+        return printf("refused,%" PRIu32 ",%" PRIu32 "\n", TILSANDO_NUMBER(why), TILSANDO_PLACE(why)), 0;
+    uint64_t bound = answer[TILSANDO_BOUND_CELLS];
+    printf(bound ? "bound,%" PRIu64 "\n" : "bound,over\n", bound);
+    lent = bound ? bound : CELLS;
+    cells = malloc(lent * sizeof *cells);
+    if (!cells)
+        return fputs("the cells cannot be had\n", stderr), 2;
+    why = tilsando_report(text, n, cells, lent, two, EACH, p, EACH, m, EACH, answer, TILSANDO_REPORT_SIZE);
     if (why)
         return printf("refused,%" PRIu32 ",%" PRIu32 "\n", TILSANDO_NUMBER(why), TILSANDO_PLACE(why)), 0;
     printf("report,%" PRIu64 ",%" PRIu64 "\n", answer[TILSANDO_REPORT_INSTRUCTIONS], answer[TILSANDO_REPORT_CONFIGURATIONS]);

@@ -1,4 +1,5 @@
-//! Prints the report of the flow in a file; then for each exit a sample, and whether the run on its tapes takes the exit.
+//! Prints how many cells the flow in a file takes at most, lends as many, and prints its report; then for each exit a sample, and whether the
+//! run on its tapes takes the exit.
 //! A file without bytes is a flow, so one that cannot be read must not be taken for it. A row is a pointer and its length, and the values of
 //! an answer stand as include/tilsando.h says.
 const CELLS: usize = 65536;
@@ -9,6 +10,7 @@ type Cell = [u32; 10];
 
 #[link(name = "tilsando", kind = "static")]
 extern "C" {
+    fn tilsando_bound(text: *const u8, _: usize, answer: &mut [u64; 1], _: usize) -> u32;
     fn tilsando_report(text: *const u8, _: usize, cells: *mut Cell, _: usize, two: &mut Each<u8>, _: usize, p: &mut Each<u32>, _: usize,
         m: &mut Each<u32>, _: usize, answer: &mut [u64; 2], _: usize) -> u32;
     fn tilsando_sample(text: *const u8, _: usize, instruction: u64, exit: u8, cells: *mut Cell, _: usize, row: &mut Row<i32>, _: usize,
@@ -48,7 +50,15 @@ fn main() {
         eprintln!("the flow cannot be read");
         std::process::exit(2);
     };
-    let (mut cells, mut two, mut p, mut m, mut answer) = (vec![[0; 10]; CELLS], [0; EACH], [0; EACH], [0; EACH], [0; 2]);
+    let mut bound = [0];
+    let why = unsafe { tilsando_bound(text.as_ptr(), text.len(), &mut bound, 1) };
+    if why != 0 {
+        return println!("refused,{},{}", why % 256, why / 256);
+    }
+    let [bound] = bound;
+    println!("bound,{}", if bound == 0 { "over".to_string() } else { bound.to_string() });
+    let lent = if bound == 0 { CELLS } else { bound as usize };
+    let (mut cells, mut two, mut p, mut m, mut answer) = (vec![[0; 10]; lent], [0; EACH], [0; EACH], [0; EACH], [0; 2]);
     let why = unsafe { tilsando_report(text.as_ptr(), text.len(), cells.as_mut_ptr(), cells.len(), &mut two, EACH, &mut p, EACH, &mut m, EACH, &mut answer, 2) };
     if why != 0 {
         return println!("refused,{},{}", why % 256, why / 256);

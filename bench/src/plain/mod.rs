@@ -72,6 +72,24 @@ pub fn report(text: &[u8], cells: &mut [Cell]) -> Result<Report, Refusal> {
     reported
 }
 
+/// The bound on the configurations of a flow, cut off at every stage past 65,536; none if it exceeds that.
+pub fn bound(text: &[u8]) -> Result<Option<u64>, Refusal> {
+    const MOST: u64 = 65_536;
+    let flow = reading::read(text)?;
+    let (lo, hi) = configuration::range(&flow);
+    let w = (hi - lo) as u64 + 1;
+    let further = |x: u64, y: u64, c: u64| (x * y + c).min(MOST + 1);
+    let by = |coefficients: &[u64]| coefficients.iter().fold(1, |x, c| further(x, w, *c));
+    let patterns = match flow.variables {
+        1 => by(&[2]),
+        2 => by(&[4, 8]),
+        3 => by(&[6, 24, 44]),
+        _ => by(&[8, 48, 176, 308]),
+    };
+    let n = further((flow.count as u64) << flow.tapes, patterns, 0);
+    Ok((n <= MOST).then_some(n))
+}
+
 /// A sample; none if no tapes take the exit.
 pub fn sample(text: &[u8], instruction: u64, exit: bool, cells: &mut [Cell], row: &mut [i32]) -> Result<Option<Sample>, Refusal> {
     let cells = &mut Cells(cells);

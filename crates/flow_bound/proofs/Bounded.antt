@@ -4,7 +4,7 @@ use mathlib.Core.Path.{_≡_, refl, sym, subst}
 use mathlib.Core.Bool.{Bool, true, false}
 use mathlib.Core.List.{List, [], _∷_, map}
 use mathlib.Core.Logic.{inl, inr}
-use Prim.Native.Nat.{ℕ, suc, _-_, _*_, _≤_}
+use Prim.Native.Nat.{ℕ, suc, _-_, _*_, _^_, _≤_}
 use native.Mathlib.Omega.{arith}
 use lib.ListN.{length, length-map}
 use Rattle.graph.specs.Lists.{In, Once, Census, MoreThan}
@@ -12,7 +12,7 @@ use Rattle.graph.proofs.Counting.{once-le, listed, length-listed, listed-in, in
 use Rattle.graph.proofs.Levels.{exit-within}
 use Rattle.model.specs.Language.{Flow, C1, C2}
 use Rattle.model.specs.Machine.{State, Exit, run}
-use Rattle.model.specs.Pattern.{Mark, pattern}
+use Rattle.model.specs.Pattern.{Mark, pattern, widthOf}
 use Rattle.model.specs.Distance.{Distance}
 use Rattle.model.specs.Configuration.{Configuration, Reachable}
 use Rattle.model.specs.inner.View.{LegalFlow}
@@ -23,6 +23,7 @@ use Rattle.model.proofs.Theorems.{reach-reachable}
 use Rattle.model.proofs.Paths.{configurations, Taking, reach-of-path, exit-of-distance}
 use Rattle.outside.specs.inner.Rows.{bind, rows}
 use Rattle.outside.proofs.Rows.{in-bind, in-rows, length-bind, length-rows}
+use Rattle.patterns.specs.Patterns.{patternsOf}
 use Rattle.patterns.proofs.Patterns.{patterns, patterns-census, patterns-number}
 use Rattle.flow.specs.Legal.{Legal}
 use Rattle.flow.proofs.Tests.{ranges-sound}
@@ -94,7 +95,11 @@ module _ {flow : Flow} (l : Legal flow) where
 
   everywhere-number : length (everywhere flow) ≡ boundOf flow
   unfolding everywhere places boundOf
-  everywhere-number = simp (length-each, length-map, length-listed, length-rows, patterns-number (legal .zero) (flow .variables) (l .variables .1))
+  everywhere-number =
+      let number = patternsOf (flow .variables) (widthOf (C1 flow) (C2 flow)) in
+      let factors : length (everywhere flow) ≡ length (flow .instructions) * (2 ^ flow .tapes) * number =
+      simp (length-each, length-map, length-listed, length-rows, patterns-number (legal .zero) (flow .variables) (l .variables .1)) in
+      omega (arith, factors)
 
   -- ---- reachable configurations never outnumber the bound
   once-bounded : (list : List Configuration) → Once list → ((c : Configuration) → In c list → Reachable (C1 flow) (C2 flow) flow c)

@@ -1,4 +1,4 @@
-// The lines of a report, in a row (document 01, "The report"). Every function but the last two puts bytes into the row from a place on, and
+// The lines of a report (document 01, "The report") and of a bound, in a row. Every function that is not public puts bytes into the row from a place on, and
 // gives the place behind them.
 ghost use mathlib.Core.Path.{_≡_};
 ghost use mathlib.Core.List.{[], _∷_, _++_};
@@ -6,11 +6,16 @@ ghost use Prim.Native.Nat.{_+_, _*_, _≤_};
 ghost use lib.ListN.{length};
 ghost use Rattle.text.specs.Write.{decimal, ended};
 ghost use Rattle.flow.specs.Limits.{maxInstructions};
+ghost use Rattle.flow.specs.Read.{readFlow};
 ghost use Rattle.interpreter.specs.Run.{written};
-ghost use Rattle.render.specs.Report.{distanceText, exitLine, exitLines, exitLinesFrom, wordLine, reportText, Printed};
-ghost use Rattle.render.specs.inner.Writing.{Put};
+ghost use Rattle.tape_maker.specs.Bound.{boundIn};
+ghost use Rattle.render.specs.Report.{distanceText, exitLine, exitLines, exitLinesFrom, wordLine, refusalLine, reportText, Printed};
+ghost use Rattle.render.specs.Bound.{boundLine, boundText};
+ghost use Rattle.render.specs.inner.Writing.{lineBytes, Put};
 use cells::Cell;
 use flow::Flow;
+use flow::Refusal;
+use tape_maker::BoundAnswer;
 use tape_maker::ReportAnswer;
 use tape_maker::ReportEnd;
 
@@ -18,6 +23,11 @@ use tape_maker::ReportEnd;
 pub const REPORT_BYTES: usize = 4096;
 
 pub type Row = [u8; REPORT_BYTES];
+
+// No line of a bound has more bytes.
+pub const LINE_BYTES: usize = 64;
+
+pub type Line = [u8; LINE_BYTES];
 
 // The cells that a report is made with.
 pub const CELLS: usize = 4096;
@@ -108,13 +118,21 @@ fn all_exits(
 
 // A line of a word and two numbers, at the row's start.
 fn word_line(out: &mut [u8], word: &[u8], a: u64, b: u64) -> usize
-    requires { ⌜ (length (now word) ≤ 8) × (64 ≤ length (now out)) ⌝ }
-    ensures { λ r. ⌜ Put (wordLine (now (word .entry)) a b ++ (10 ∷ [])) (now (out .entry)) 0 (now (out .exit)) r × (r ≤ 64) ⌝ }
+    requires { ⌜ (length (now word) ≤ 8) × (lineBytes ≤ length (now out)) ⌝ }
+    ensures { λ r. ⌜ Put (wordLine (now (word .entry)) a b ++ (10 ∷ [])) (now (out .entry)) 0 (now (out .exit)) r × (r ≤ lineBytes) ⌝ }
 {
     let x = copy(out, 0, word);
     let y = field(out, x, a);
     let z = field(out, y, b);
     copy(out, z, b"\n")
+}
+
+// The line of a refusal, at the row's start.
+fn refusal_line(out: &mut [u8], why: Refusal) -> usize
+    requires { ⌜ lineBytes ≤ length (now out) ⌝ }
+    ensures { λ r. ⌜ Put (refusalLine why ++ (10 ∷ [])) (now (out .entry)) 0 (now (out .exit)) r × (r ≤ lineBytes) ⌝ }
+{
+    word_line(out, b"refused", why.number() as u64, why.place() as u64)
 }
 
 // Writes the lines of a report into the first cells of a row, and says how many bytes they have.
@@ -136,12 +154,7 @@ pub fn report_text(r: ReportAnswer, out: &mut Row) -> usize
             let m = r.m;
             all_exits(out, at, two, p, m)
         }
-        ReportEnd::Refused(why) => word_line(
-            out,
-            b"refused",
-            why.number() as u64,
-            why.place() as u64,
-        ),
+        ReportEnd::Refused(why) => refusal_line(out, why),
     }
 }
 
@@ -153,4 +166,36 @@ pub fn report_of(text: &[u8], out: &mut Row) -> usize
     let mut cells = [[0u32; Cell::WORDS]; CELLS];
     let r = tape_maker::report(text, &mut cells);
     report_text(r, out)
+}
+
+// The line of a bound, at the row's start.
+fn bound_line(out: &mut [u8], n: u64) -> usize
+    requires { ⌜ lineBytes ≤ length (now out) ⌝ }
+    ensures { λ r. ⌜ Put (boundLine (BoundAnswer.AtMost n) ++ (10 ∷ [])) (now (out .entry)) 0 (now (out .exit)) r × (r ≤ lineBytes) ⌝ }
+{
+    let x = copy(out, 0, b"bound");
+    let y = field(out, x, n);
+    copy(out, y, b"\n")
+}
+
+// Writes the line of a bound into the first cells of a row, and says how many bytes it has.
+pub fn bound_text(r: BoundAnswer, out: &mut Line) -> usize
+    ensures { λ n. ⌜ (n ≡ length (boundText r)) × (now (out .exit) ≡ written (boundText r) (now (out .entry))) ⌝ }
+    ensures { λ n. ⌜ n ≤ length (now (out .exit)) ⌝ }
+{
+    match r {
+        BoundAnswer::AtMost(n) => bound_line(out, n as u64),
+        BoundAnswer::Over => copy(out, 0, b"bound,over\n"),
+        BoundAnswer::Refused(why) => refusal_line(out, why),
+    }
+}
+
+// The bound of a flow, as text.
+pub fn bound_of(text: &[u8], out: &mut Line) -> usize
+    ensures { λ n. ⌜ (n ≡ length (boundText (boundIn (readFlow (now (text .entry))))))
+        × (now (out .exit) ≡ written (boundText (boundIn (readFlow (now (text .entry))))) (now (out .entry))) ⌝ }
+    ensures { λ n. ⌜ n ≤ length (now (out .exit)) ⌝ }
+{
+    let r = tape_maker::bound(text);
+    bound_text(r, out)
 }

@@ -5,6 +5,7 @@ use mathlib.Core.List.{List}
 use mathlib.Core.Option.{Option}
 use Prim.Native.Nat.{ℕ, zero, suc, _≤_}
 use native.Mathlib.Omega.{arith}
+use lib.Dec.{ltb}
 use lib.IntN.{ℤ}
 use Rattle.model.specs.Language.{Flow}
 use Rattle.model.specs.Machine.{Exit, exitIf}
@@ -16,9 +17,12 @@ use Rattle.flow.proofs.Places.{read-place}
 use Rattle.interpreter.specs.Run.{Progress, coming, isStop, onward, fit, Outcome, outcome, limited, rowRun, ranOf}
 use Rattle.interpreter.specs.declared.RunEnd as RunEnds
 use Rattle.interpreter.specs.declared.RunAnswer.{RunAnswer}
-use Rattle.cells.specs.Cells.{cellsOf}
+use Rattle.cells.specs.Cells.{mostCells, cellsOf}
+use Rattle.flow_bound.specs.Bound.{boundOf, boundAnswer}
+use Rattle.flow_bound.specs.declared.BoundAnswer as Bounds
 use Rattle.sample.specs.declared.SampleEnd as SampleEnds
 use Rattle.sample.specs.declared.SampleAnswer.{SampleAnswer}
+use Rattle.tape_maker.specs.Bound.{boundIn}
 use Rattle.tape_maker.specs.Run.{tapesFit, requestedOf, requested, answerOf, RunIs}
 use Rattle.tape_maker.specs.Report.{FlowReport, ReportOf, ReportIs}
 use Rattle.tape_maker.specs.Sample.{Reason, no-such-exit, too-few-cells, short-row, Answered, SampleOf, SampleIs}
@@ -88,3 +92,16 @@ sample-place {text} {i} {exit} {c} {row = row} {row′ = row′} {r = r} h why e
         let y = subst (λ (k : SampleEnds.SampleEnd). Answered flow i (exitIf exit) (cellsOf c) row row′ r k) e x in
         reason-place flow i (exitIf exit) (cellsOf c) row why (y .0)
     go (fault w) q x = let f : w ≡ why = cc (ap (λ (a : SampleAnswer). a .end) (x .answer)) in read-place text why (q ∙ ap fault f)
+
+-- ---- a bound
+pub bound-place : (text : List ℕ) (why : Refusal) → boundIn (readFlow text) ≡ Bounds.the-variants.Refused why → placeOf why ≤ 66
+unfolding boundIn boundAnswer
+bound-place text why e = go (readFlow text) refl e
+  where
+    by : (b : Bool) (n : ℕ) → cond b Bounds.the-variants.Over (Bounds.the-variants.AtMost n) ≡ Bounds.the-variants.Refused why → ⊥
+    by true n x = let z : _≡_ {A = ℕ} 0 1 = cc in omega arith
+    by false n x = let z : _≡_ {A = ℕ} 0 1 = cc in omega arith
+
+    go : (o : Checked Flow) → readFlow text ≡ o → boundIn o ≡ Bounds.the-variants.Refused why → placeOf why ≤ 66
+    go (ok flow) q x = absurd (by (ltb mostCells (boundOf flow)) (boundOf flow) x)
+    go (fault w) q x = let f : w ≡ why = cc in read-place text why (q ∙ ap fault f)

@@ -9,7 +9,9 @@ ghost use mathlib.Core.Path.{_≡_};
 ghost use mathlib.Core.Bool.{true};
 ghost use lib.ListN.{length};
 ghost use Rattle.cells.specs.Cells.{zeroed};
+ghost use Rattle.flow.specs.Read.{readFlow};
 ghost use Rattle.sample_row.specs.Part.{spanOf, IsPart};
+ghost use Rattle.tape_maker.specs.Bound.{boundIn};
 ghost use Rattle.tape_maker.specs.Run.{requested, RunIs};
 ghost use Rattle.tape_maker.specs.Report.{ReportIs};
 ghost use Rattle.tape_maker.specs.Sample.{SampleIs};
@@ -17,10 +19,24 @@ pub use cells::Cell;
 use flow::Answer;
 use flow::Flow;
 use flow::Refusal;
+pub use flow_bound::BoundAnswer;
 pub use interpreter::RunAnswer;
 pub use interpreter::RunEnd;
 pub use sample::SampleAnswer;
 pub use sample::SampleEnd;
+
+// Says from the text alone how many cells are enough for the flow's report and for its samples: so many at most, or more than are used.
+pub fn bound(text: &[u8]) -> BoundAnswer
+    ensures { λ r. ⌜ r ≡ boundIn (readFlow (now (text .entry))) ⌝ }
+{
+    let reading = reader::read(text);
+    let answer = reading.answer;
+    let flow = reading.flow;
+    match answer {
+        Answer::Refused(why) => BoundAnswer::Refused(why),
+        Answer::Legal => flow_bound::bound_of(flow),
+    }
+}
 
 // Runs a flow on the tapes that stand one after another in a row. A put writes its output tape's number and its value into the next
 // cells of the two output rows.

@@ -8,13 +8,15 @@ ghost use mathlib.Core.Path.{_≡_};
 ghost use mathlib.Core.List.{[], _∷_};
 ghost use lib.ListN.{length};
 ghost use Rattle.sample_row.specs.Part.{spanOf};
+ghost use Rattle.flow.specs.Read.{readFlow};
+ghost use Rattle.tape_maker.specs.Bound.{boundIn};
 ghost use Rattle.tape_maker.specs.Run.{requested, RunIs};
 ghost use Rattle.tape_maker.specs.Report.{ReportIs};
 ghost use Rattle.tape_maker.specs.Sample.{SampleIs};
 ghost use Rattle.interpreter.specs.declared.RunAnswer.{RunAnswer};
 ghost use Rattle.sample.specs.declared.SampleAnswer.{SampleAnswer};
 ghost use Rattle.tape_maker.specs.declared.ReportAnswer.{ReportAnswer};
-ghost use Rattle.tilsando.specs.Exports.{laid, RunTold, ReportTold, SampleTold, wantsP, spanValues};
+ghost use Rattle.tilsando.specs.Exports.{laid, RunTold, ReportTold, SampleTold, BoundTold, wantsP, spanValues};
 use tape_maker::Cell;
 
 // Runs a flow on the tapes that stand one after another in a row of records: what `tape_maker::run` answers, told in rows.
@@ -56,6 +58,15 @@ pub extern "C" fn tilsando_report(
 {
     let report = tape_maker::report(text, cells);
     told::tell_report(report, two, p, m, answer)
+}
+
+// Says from the text alone how many cells are enough: what `tape_maker::bound` answers, told in a row.
+#[no_mangle]
+pub extern "C" fn tilsando_bound(text: &[u8], answer: &mut [u64]) -> u32
+    ensures { λ r. ⌜ BoundTold (boundIn (readFlow (now (text .entry)))) (now (answer .entry) ∷ []) (now (answer .exit) ∷ []) r ⌝ }
+{
+    let bound = tape_maker::bound(text);
+    told::tell_bound(bound, answer)
 }
 
 // Writes a sample for an exit of an instruction, m if the exit is 0 and else p: what `tape_maker::sample` answers, told in a row.

@@ -1,5 +1,6 @@
 //! One call of the library and what the independent implementation says of it: the answer, and the later content of every row.
 
+use crate::documents::bound;
 use crate::documents::flow::{Flow, Refusal};
 use crate::documents::interpreter::{self, End};
 use crate::documents::reader;
@@ -123,6 +124,30 @@ pub fn report(rng: &mut Rng, text: &[u8], known: &Known, cells: &mut Lent<Words>
             faults.extend([p.fault("p", &distances(&census.p)), m.fault("m", &distances(&census.m))]);
             faults.push(answer.fault("answer", &[exits.len() as u64, census.configurations as u64]));
             Ok("given")
+        }
+    };
+    checked(returned, outcome, faults)
+}
+
+/// The bound of a text; over is 0.
+pub fn bound(rng: &mut Rng, text: &[u8]) -> Checked {
+    let mut bytes = Lent::of(rng, text);
+    let mut answer = Lent::<u64>::for_answer(rng, 1);
+    let returned = unsafe { ffi::tilsando_bound(bytes.text(rng), bytes.len(), answer.ptr(), answer.len()) };
+    let mut faults = vec![bytes.changed("text")];
+    let outcome = match reader::read(text) {
+        Err(why) => {
+            faults.push(answer.changed("answer"));
+            Err(why)
+        }
+        Ok(flow) => {
+            let bound = bound::bound(&flow);
+            faults.push(answer.fault("answer", &[bound.unwrap_or(0)]));
+            Ok(match bound {
+                None => "over",
+                Some(65_536) => "65,536",
+                Some(_) => "a number",
+            })
         }
     };
     checked(returned, outcome, faults)

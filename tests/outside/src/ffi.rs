@@ -26,6 +26,8 @@ extern "C" {
         row: *mut i32, row_len: size_t, answer: *mut u64, answer_len: size_t,
     ) -> u32;
 
+    pub fn tilsando_bound(text: *const u8, text_len: size_t, answer: *mut u64, answer_len: size_t) -> u32;
+
     pub fn tilsando_tape(
         row: *const i32, row_len: size_t, lengths: *const usize, lengths_len: size_t, tape: size_t,
         answer: *mut u64, answer_len: size_t,

@@ -1,5 +1,6 @@
 //! Generated flows and texts, legal and damaged.
 
+use crate::documents::bound;
 use crate::documents::flow::{Flow, Instruction};
 use crate::rng::Rng;
 
@@ -377,6 +378,11 @@ pub fn late(above: bool) -> Flow {
 fn far_bounds(rng: &mut Rng, times: usize) -> (i64, i64) {
     let most = (67_000 / times as i64).min(19_999);
     let w = if rng.percent(25) { rng.from(1002.min(most), most) } else { rng.from(most - most / 10, most) };
+    about_zero(rng, w)
+}
+
+/// C1 and C2 with w numbers from the one to the other.
+fn about_zero(rng: &mut Rng, w: i64) -> (i64, i64) {
     let (least, greatest) = ((1 - w).max(-9999), (10_000 - w).min(0));
     let between = rng.from(least, greatest);
     let lo = *rng.pick(&[least, greatest, between]);
@@ -445,6 +451,74 @@ fn filtered(rng: &mut Rng) -> Flow {
     }
     instructions.push(Instruction::Stop);
     Flow { tapes, outputs: 0, variables, instructions }
+}
+
+/// So many instructions of all kinds, with w numbers from C1 to C2. A single instruction has one constant, so w is then at most 10,000.
+fn of_width(rng: &mut Rng, tapes: usize, variables: usize, count: usize, w: i64) -> Flow {
+    let (mut lo, mut hi) = about_zero(rng, w);
+    if count == 1 {
+        (lo, hi) = *rng.pick(&[(1 - w, 0), (0, w - 1)]);
+    }
+    let outputs = rng.below(4);
+    let constants = vec![lo, hi, 0, rng.from(lo, hi)];
+    let mut draw = Draw { rng, tapes, outputs, variables, count, constants };
+    let mut instructions: Vec<Instruction> = (1..=count).map(|i| draw.instruction(i)).collect();
+    let first = draw.rng.below(count);
+    let ends = [(first, lo), ((first + 1 + draw.rng.below(count.max(2) - 1)) % count, hi)];
+    for (at, c) in ends.into_iter().filter(|(_, c)| *c != 0) {
+        let (v, p, m) = (draw.variable(), draw.target(at + 1), draw.target(at + 1));
+        instructions[at] = match draw.rng.below(3) {
+            0 => Instruction::Set { c, v, n: p },
+            1 => Instruction::Over { c, v, p, m },
+            _ => Instruction::Under { v, c, p, m },
+        };
+    }
+    Flow { tapes, outputs, variables, instructions }
+}
+
+/// Tapes, variables, instructions and w of bounds past 65,536 that would not be past it if they were kept in 32 bits.
+const WRAPPING: [(usize, usize, usize, i64); 9] = [
+    (2, 2, 64, 4094),
+    (1, 2, 32, 8190),
+    (3, 2, 2, 16_382),
+    (2, 3, 1, 1022),
+    (1, 3, 1, 2046),
+    (1, 3, 17, 1079),
+    (1, 4, 41, 83),
+    (1, 4, 7, 6106),
+    (1, 4, 1, 9814),
+];
+
+/// A legal flow for its bound (document 02, T-01): 65,536, about 65,536, past it by far, or any.
+pub fn bounded(rng: &mut Rng) -> Flow {
+    let (tapes, variables) = (1 + rng.below(3), 1 + rng.below(4));
+    let count = if rng.percent(70) { 1 + rng.below(8) } else { 1 + rng.below(64) };
+    let most = if count == 1 { 10_000 } else { 19_999 };
+    match rng.below(10) {
+        0..=2 => {
+            // One variable has w + 2 patterns, a power of 2, and then the count is one.
+            let power = rng.from(10 - tapes as i64, if tapes == 3 { 13 } else { 15 - tapes as i64 });
+            of_width(rng, tapes, 1, 1 << (16 - tapes as i64 - power), (1 << power) - 2)
+        }
+        3..=6 => {
+            let given = |w: &i64| count as u128 * (1 << tapes) * bound::patterns(variables, *w as u128) <= 65_536;
+            let last = (1..=most).take_while(given).last().unwrap_or(1);
+            let w = (last + rng.from(-1, 2)).clamp(1, most);
+            of_width(rng, tapes, variables, count, w)
+        }
+        7 => {
+            let (tapes, variables, count, w) = *rng.pick(&WRAPPING);
+            of_width(rng, tapes, variables, count, w)
+        }
+        8 => {
+            let w = rng.from(1, most);
+            of_width(rng, tapes, variables, count, w)
+        }
+        _ => {
+            let w = rng.from(1, 40);
+            of_width(rng, tapes, variables, count, w)
+        }
+    }
 }
 
 /// A legal flow with constants far apart (document 02, T-09), of some thousand configurations up to a bit past 65,536.

@@ -2,11 +2,11 @@
 //!
 //!     outside [SEED [ROUNDS]]
 //!
-//! The implementation (documents/) is written from documents 01, 02 (T-02, T-05, T-08, T-09) and 000. Some of the texts go to the program
-//! `report` too, if its path is in REPORT. Prints the seed, the cases by sort and outcome, those of the empty text and some with wide
-//! constants again by themselves, the reports by the pairs of variables that they compare, and `N cases, M differences`. A difference is
-//! printed with its case in full, and the status is then 1; it is 1 too if an outcome that documents 01 and 02 know, or one of those pairs,
-//! was never met.
+//! The implementation (documents/) is written from documents 01, 02 (T-01, T-02, T-05, T-08, T-09) and 000. Some of the texts go to the
+//! programs `report` and `bound` too, if their paths are in REPORT and BOUND. Prints the seed, the cases by sort and outcome, those of the
+//! empty text and some with wide constants again by themselves, the reports by the pairs of variables that they compare, and `N cases, M
+//! differences`. A difference is printed with its case in full, and the status is then 1; it is 1 too if an outcome that documents 01 and 02
+//! know, or one of those pairs, was never met.
 
 mod cases;
 mod documents;
@@ -18,8 +18,8 @@ mod rng;
 
 use cases::{Checked, Known, RunCase, SampleCase, TapeCase};
 use documents::flow::{Flow, Refusal};
-use documents::search::Pair;
-use documents::{pieces, reader, sample, search};
+use documents::search::{Census, Pair};
+use documents::{bound, pieces, reader, sample, search};
 use ffi::Words;
 use rng::Rng;
 use std::cmp::Ordering;
@@ -33,17 +33,31 @@ const MOST: usize = 65_536;
 const OF_TEXT: [u32; 9] = [1, 3, 5, 6, 7, 8, 13, 14, 15];
 
 /// The outcomes that must be met, beside the refusals of the text.
-const OUTCOMES: [(&str, &[&str]); 5] = [
+const OUTCOMES: [(&str, &[&str]); 9] = [
     ("run", &["stopped", "spent", "full", "refused 12"]),
     ("report", &["given", "refused 9"]),
     ("program", &["given", "refused 9"]),
     ("sample", &["given", "none", "refused 9", "refused 10", "refused 11"]),
     ("tape", &["a part", "the empty part"]),
+    ("bound", &["a number", "65,536", "over"]),
+    ("program bound", &["a number", "over"]),
+    ("report lent the bound", &["given"]),
+    ("sample lent the bound", &["given", "none"]),
 ];
 
+/// The sorts that meet no refusal of the text.
+const WITHOUT_REFUSALS: [&str; 3] = ["tape", "report lent the bound", "sample lent the bound"];
+
 /// The outcomes that must be met with the empty text, by document 02 (T-08).
-const OF_EMPTY: [(&str, &[&str]); 4] =
-    [("run", &["stopped", "refused 12"]), ("report", &["given", "refused 9"]), ("program", &["given"]), ("sample", &["refused 11"])];
+const OF_EMPTY: [(&str, &[&str]); 7] = [
+    ("run", &["stopped", "refused 12"]),
+    ("report", &["given", "refused 9"]),
+    ("program", &["given"]),
+    ("sample", &["refused 11"]),
+    ("bound", &["a number"]),
+    ("program bound", &["a number"]),
+    ("report lent the bound", &["given"]),
+];
 
 /// What must be met with wide constants, by document 02 (T-09). The reports are those with C2 - C1 of 9,999 or more.
 const OF_WIDE: [(&str, &[&str]); 3] = [
@@ -140,7 +154,7 @@ impl Tally {
         let refusals = OF_TEXT.map(|n| format!("refused {n}"));
         let mut missing = Vec::new();
         for (sort, outcomes) in OUTCOMES.into_iter().filter(|(sort, _)| tried(sort)) {
-            let of_text = refusals.iter().filter(|_| sort != "tape").map(String::as_str);
+            let of_text = refusals.iter().filter(|_| !WITHOUT_REFUSALS.contains(&sort)).map(String::as_str);
             for outcome in outcomes.iter().copied().chain(of_text) {
                 if !self.by_outcome.contains_key(&(sort, outcome.to_string())) {
                     missing.push(format!("{sort}: {outcome}"));
@@ -379,6 +393,44 @@ fn sample(rng: &mut Rng, tally: &mut Tally, left: &mut Vec<Words>, text: &[u8], 
     *left = lent.now().to_vec();
 }
 
+/// A report, and sometimes a sample, lent as many cells as the bound says, and the sample a row of as many records: neither is refused by
+/// 9 or 10 (document 02, T-01). Of the implementation itself it is checked that the bound holds.
+fn lent_the_bound(rng: &mut Rng, tally: &mut Tally, left: &mut Vec<Words>, text: &[u8], known: &Known) {
+    let Ok((flow, census)) = known else {
+        return;
+    };
+    let Some(bound) = bound::bound(flow) else {
+        return;
+    };
+    let held = |c: &Census| c.configurations as u64 <= bound && c.p.iter().chain(&c.m).flatten().all(|d| u64::from(*d) <= bound);
+    if !census.as_ref().is_some_and(held) {
+        tally.differ("bound of our own", &[format!("the bound is {bound}, the census {census:?}")], text, &"");
+        return;
+    }
+    let cells = bound as usize;
+    let mut lent = lent::cells(rng, cells, left);
+    let checked = cases::report(rng, text, known, &mut lent);
+    tally.note("report lent the bound", checked, text, &cells);
+    *left = lent.now().to_vec();
+    let two: Vec<u64> = (1..=flow.instructions.len() as u64).filter(|i| flow.has_exits(*i)).collect();
+    if rng.percent(40) && !two.is_empty() {
+        let case = SampleCase { instruction: *rng.pick(&two), exit: rng.percent(50), row: cells };
+        let mut lent = lent::cells(rng, cells, left);
+        let (checked, _) = cases::sample(rng, text, known, &mut lent, &case);
+        tally.note("sample lent the bound", checked, text, &(&case, cells));
+        *left = lent.now().to_vec();
+    }
+}
+
+/// Whether a report of this text is to be lent as many cells as its bound says: often if they are few, since to fill many takes time.
+fn asks_for_bound(rng: &mut Rng, known: &Known) -> bool {
+    match known.as_ref().ok().and_then(|(flow, _)| bound::bound(flow)) {
+        Some(bound) if bound <= 3000 => rng.percent(20),
+        Some(_) => rng.percent(3),
+        None => false,
+    }
+}
+
 /// How many cells are lent for a text.
 type CellsFor = fn(&mut Rng, &Known) -> usize;
 
@@ -396,6 +448,9 @@ fn report_and_samples(rng: &mut Rng, tally: &mut Tally, left: &mut Vec<Words>, t
         let case = sample_case(rng, &known);
         let cells = cells_for(rng, &known);
         sample(rng, tally, left, text, &known, cells, &case);
+    }
+    if asks_for_bound(rng, &known) {
+        lent_the_bound(rng, tally, left, text, &known);
     }
 }
 
@@ -449,6 +504,7 @@ fn run_twice(rng: &mut Rng, tally: &mut Tally, flow: &Flow) -> Vec<u8> {
         let checked = cases::run(rng, &text, &case);
         tally.note("run", checked, &text, &case);
     }
+    tally.note("bound", cases::bound(rng, &text), &text, &"");
     text
 }
 
@@ -457,6 +513,7 @@ fn main() -> ExitCode {
     let seed = args.next().unwrap_or(20_260_101);
     let rounds = args.next().unwrap_or(16_000);
     let program = std::env::var("REPORT").ok();
+    let of_bounds = std::env::var("BOUND").ok();
     println!("seed {seed}");
     pieces::check();
     let rng = &mut Rng::new(seed);
@@ -484,6 +541,18 @@ fn main() -> ExitCode {
                 tally.note("program", program::report(program, &text), &text, &"");
             }
         }
+        if round % 2 == 0 {
+            let flow = gen::bounded(rng);
+            let text = flow.text().into_bytes();
+            assert_eq!(reader::read(&text).as_ref(), Ok(&flow), "a generated flow is read back");
+            tally.note("bound", cases::bound(rng, &text), &text, &"");
+            if round % 128 == 0 {
+                lent_the_bound(rng, &mut tally, left, &text, &known(&text));
+            }
+            if let (0, Some(program)) = (round % 64, &of_bounds) {
+                tally.note("program bound", program::bound(program, &text), &text, &"");
+            }
+        }
         let text = gen::damaged(rng);
         let read = reader::read(&text);
         tally.note_text(&text, &read);
@@ -494,6 +563,11 @@ fn main() -> ExitCode {
         if let (0, Some(program)) = (round % 8, &program) {
             tally.note("program", program::report(program, &text), &text, &"");
         }
+        // Few texts are too long, so all of those.
+        if let (true, Some(program)) = (round % 16 == 8 || text.len() > 4096, &of_bounds) {
+            tally.note("program bound", program::bound(program, &text), &text, &"");
+        }
+        tally.note("bound", cases::bound(rng, &text), &text, &"");
         let case = run_case(rng, read.as_ref());
         let checked = cases::run(rng, &text, &case);
         tally.note("run", checked, &text, &case);
@@ -505,7 +579,11 @@ fn main() -> ExitCode {
         tally.note("tape", checked, b"", &case);
     }
     tally.print();
-    let missing = tally.missing(|sort| sort != "program" || program.is_some());
+    let missing = tally.missing(|sort| match sort {
+        "program" => program.is_some(),
+        "program bound" => of_bounds.is_some(),
+        _ => true,
+    });
     for outcome in &missing {
         println!("never met: {outcome}");
     }

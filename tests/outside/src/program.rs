@@ -1,7 +1,7 @@
-//! The program `report`: what it prints for a text, held to the lines of documents 01 and 02.
+//! The programs `report` and `bound`: what they print for a text, held to the lines of documents 01 and 02.
 
 use crate::cases::Checked;
-use crate::documents::report;
+use crate::documents::{bound, report};
 use std::io::Write;
 use std::process::{Command, Stdio};
 
@@ -15,11 +15,20 @@ fn printed(program: &str, text: &[u8]) -> std::io::Result<Vec<u8>> {
     Ok(child.wait_with_output()?.stdout)
 }
 
-pub fn report(program: &str, text: &[u8]) -> Checked {
-    let want = report::lines(text, CELLS);
-    let is = printed(program, text).expect("the program `report` is run");
+/// What a program prints, held to what it should print; the outcome is a refusal, or what the second field of the first line is called.
+fn checked(program: &str, text: &[u8], want: &str, named: fn(&str) -> &'static str) -> Checked {
+    let is = printed(program, text).expect("the program is run");
     let fault = (is != want.as_bytes()).then(|| format!("prints\n{}should print\n{want}", String::from_utf8_lossy(&is)));
-    let outcome = want.lines().next().unwrap_or("").split(',').take(2).collect::<Vec<_>>().join(" ");
-    let outcome = if outcome.starts_with("report") { "given".to_string() } else { outcome };
+    let mut fields = want.lines().next().unwrap_or("").split(',');
+    let (first, second) = (fields.next().unwrap_or(""), fields.next().unwrap_or(""));
+    let outcome = if first == "refused" { format!("{first} {second}") } else { named(second).to_string() };
     Checked { outcome, faults: fault.into_iter().collect() }
+}
+
+pub fn report(program: &str, text: &[u8]) -> Checked {
+    checked(program, text, &report::lines(text, CELLS), |_| "given")
+}
+
+pub fn bound(program: &str, text: &[u8]) -> Checked {
+    checked(program, text, &bound::line(text), |told| if told == "over" { "over" } else { "a number" })
 }

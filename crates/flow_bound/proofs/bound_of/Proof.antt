@@ -43,7 +43,8 @@ returns c =
     let number = patterns .pattern-count .ensures .0 ∙ ap (λ w. cappedCells (patternsOf (rows .variables) w)) (width-is width) in
     let instructions = rows-count rows (count .instruction-count .result) (count .instruction-count .ensures .0) in
     c .answer-for .ensures
-    ∙ answer-product _ (rows .tapes) _ _ _ _ _ (ends .tape-sets .ensures .0) number (places .further .ensures .0) (whole .further2 .ensures .0)
+    ∙ answer-product (count .instruction-count .result) (rows .tapes) (ends .tape-sets .result) (patterns .pattern-count .result) (places .further .result)
+    (whole .further2 .result) _ (ends .tape-sets .ensures .0) number (omega (arith, places .further .ensures .0)) (omega (arith, whole .further2 .ensures .0))
     ∙ ap (λ i. boundAnswer (i * (2 ^ rows .tapes) * patternsOf (rows .variables) (widthOf (C1 (flowOf rows)) (C2 (flowOf rows))))) instructions
 
 pub bound-of-spec : {M : Type 1} → statement M

@@ -1,6 +1,7 @@
 //! The test pieces of document 01 ("Test pieces"), cases `-0` and 1001 as document 02 (T-02, T-09) has them, flow A ("The report"), and of
-//! document 02 the nine pairs (T-05), the empty text (T-08) and the constants up to 9999 (T-09).
+//! document 02 the bounds (T-01), the nine pairs (T-05), the empty text (T-08) and the constants up to 9999 (T-09).
 
+use super::bound::{bound, exact, line, patterns, patterns_listed};
 use super::flow::{Flow, Instruction, Refusal};
 use super::interpreter::{run, End, Ran};
 use super::reader::read;
@@ -374,6 +375,66 @@ fn wide_reports() {
     assert_eq!(lines(many, usize::MAX), "refused,9,0\n");
 }
 
+/// The pattern numbers of T-01 by listing, for C1 and C2 at several places around 0.
+fn pattern_numbers() {
+    for (variables, most) in [(1, 20), (2, 12), (3, 7), (4, 4)] {
+        for w in 1..=most {
+            for low in [1 - w, -(w / 2), 0] {
+                let listed = patterns_listed(variables, low, low + w - 1);
+                assert_eq!(listed, patterns(variables, w as u128), "{variables} variables, {low} to {}", low + w - 1);
+            }
+        }
+    }
+    assert_eq!([1, 2, 3, 4].map(|variables| patterns(variables, 1)), [3, 13, 75, 541]);
+    assert_eq!([1, 2, 3, 4].map(|variables| patterns(variables, 0)), [2, 8, 44, 308], "all outside");
+    assert_eq!(patterns_listed(1, -9999, 9999), 20_001);
+}
+
+/// Two instructions with these constants.
+fn two(low: i64, high: i64) -> String {
+    format!("flow,1,0,1\n1,over,{low},1,2,2\n2,under,1,{high},1,1\n")
+}
+
+/// Bounds, counted by hand.
+fn bounds() {
+    let seven = |c: i64| format!("flow,1,0,1\n1,read,1,1,2,7\n2,set,{c},1,3\n3,nop,4\n4,nop,5\n5,nop,6\n6,nop,7\n7,stop\n");
+    for (text, answer) in [
+        (String::new(), Some(6)),
+        (STOP.to_string(), Some(6)),
+        (FLOW_A.to_string(), Some(3 * 2 * 8)),
+        (FLOW_B.to_string(), Some(3 * 2 * 3)),
+        (CHAIN.to_string(), Some(6 * 2 * 68)),
+        (NINE.to_string(), Some(21 * 2 * 29)),
+        (BEYOND.to_string(), None),
+        ("flow,1,0,1\n1,read,1,1,1,1\n".to_string(), Some(6)),
+        ("flow,3,3,4\n1,stop\n".to_string(), Some(8 * 541)),
+        // An instruction that is never reached counts, and so does its constant.
+        ("flow,2,0,3\n1,stop\n2,set,-1,3,1\n3,under,1,1,1,1\n".to_string(), Some(3 * 4 * 197)),
+        // 65,536, and the values next to it with two instructions; then the even numbers next to it.
+        (two(-9999, 6382), Some(65_536)),
+        (two(-6382, 9999), Some(65_536)),
+        (two(-9999, 6381), Some(65_532)),
+        (two(-9999, 6383), None),
+        (two(-9999, 9999), None),
+        (seven(4678), Some(65_534)),
+        (seven(-4678), Some(65_534)),
+        (seven(4679), None),
+        ("flow,1,0,1\n1,set,-9999,1,2\n2,set,921,1,3\n3,stop\n".to_string(), None),
+        // Past 65,536, and in 32 bits 49,176.
+        ("flow,1,0,3\n1,over,2045,1,1,1\n".to_string(), None),
+    ] {
+        let flow = flow(&text);
+        assert_eq!(bound(&flow), answer, "{text}");
+        assert_eq!(line(text.as_bytes()), answer.map_or("bound,over\n".to_string(), |bound| format!("bound,{bound}\n")), "{text}");
+    }
+    assert_eq!(exact(&flow("flow,1,0,1\n1,set,-9999,1,2\n2,set,921,1,3\n3,stop\n")), 65_538);
+    let most = (1..=64).fold("flow,3,0,4\n".to_string(), |text, i| text + &format!("{i},set,{},1,1\n", if i > 32 { 9999 } else { -9999 }));
+    assert_eq!(exact(&flow(&most)), 81_936_390_145_024_088_576, "past 64 bits");
+    assert_eq!(line(most.as_bytes()), "bound,over\n");
+    assert_eq!(line(b"flow,1,0,1\n2,stop\n"), "refused,6,2\n");
+    assert_eq!(lines(b"flow,1,0,1\n1,read,1,1,1,1\n", 6), "report,1,6\n1,p,1\n1,m,1\n", "as many as the bound says");
+}
+
 fn samples() {
     let refuse = |number| Err(Refusal { number, place: 0 });
     let chain = flow(CHAIN);
@@ -490,6 +551,8 @@ pub fn check() {
     reports();
     nine();
     wide_reports();
+    pattern_numbers();
+    bounds();
     samples();
     of_empty();
 }

@@ -224,7 +224,7 @@ pub fn census(flow: &Flow, cells: usize) -> Result<Census, Refusal> {
 
 /// The pattern of actual numbers, by the words of document 01: for each variable its side (-1 below C1, 0 inside, 1 above C2) and
 /// its rank counted from the nearest, or inside the value itself.
-fn pattern_of(values: &[i64], low: i64, high: i64) -> Vec<(i8, i64)> {
+pub fn pattern_of(values: &[i64], low: i64, high: i64) -> Vec<(i8, i64)> {
     let ranked = |mut side: Vec<i64>, x: i64| {
         side.sort_unstable();
         side.dedup();
