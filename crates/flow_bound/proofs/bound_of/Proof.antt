@@ -1,6 +1,5 @@
 -- `flow_bound::bound_of` meets its contract: the factors, and the answer for their product.
 use mathlib.Core.Path.{_≡_, ap, ap₂, _∙_}
-use Prim.Native.Nat.{_*_, _^_}
 use native.Mathlib.Omega.{arith}
 use borrow.Author.Needs.{needs}
 use Rattle.model.specs.Language.{C1, C2}
@@ -45,7 +44,7 @@ returns c =
     c .answer-for .ensures
     ∙ answer-product (count .instruction-count .result) (rows .tapes) (ends .tape-sets .result) (patterns .pattern-count .result) (places .further .result)
     (whole .further2 .result) _ (ends .tape-sets .ensures .0) number (omega (arith, places .further .ensures .0)) (omega (arith, whole .further2 .ensures .0))
-    ∙ ap (λ i. boundAnswer (i * (2 ^ rows .tapes) * patternsOf (rows .variables) (widthOf (C1 (flowOf rows)) (C2 (flowOf rows))))) instructions
+    ∙ ap boundAnswer (rw instructions (omega arith))
 
 pub bound-of-spec : {M : Type 1} → statement M
 bound-of-spec =
