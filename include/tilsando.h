@@ -37,8 +37,9 @@
  * If it is longer, the elements past the values stay as they were. In two, p and m element i belongs to instruction i + 1; there are 64
  * values, and those past the last instruction are 0.
  *
- * CELLS hold the search, one configuration to a cell. At most 65,536 of them are used; tilsando_bound says how many are enough. Their contents before the call do not matter. A
- * refusal leaves 0 in every word of every cell, also past 65,536. After an answer they hold nothing of use. */
+ * CELLS hold the search, one configuration to a cell. At most 65,536 of them are used; tilsando_bound says how many are enough. Their
+ * contents before the call do not matter. A refusal leaves 0 in every word of every cell, also past 65,536. After an answer they hold
+ * nothing of use. */
 #ifndef TILSANDO_H
 #define TILSANDO_H
 
@@ -100,8 +101,8 @@ uint32_t tilsando_run(const uint8_t *text, size_t text_len, uint64_t limit,
 #define TILSANDO_BOUND_CELLS 0
 #define TILSANDO_BOUND_SIZE 1
 
-/* Says from the text alone how many cells are enough: a bound on the reachable configurations, which is I times 2 to the power T times the
- * number of patterns. With so many cells tilsando_report and tilsando_sample never return refusal 9; with a row of so many records as well,
+/* Says from the text alone how many cells are enough: a bound on the reachable configurations, which is the number of instructions, times 2
+ * to the power T, times the number of patterns (docs/FLOWS.md). With so many cells tilsando_report and tilsando_sample never return refusal 9; with a row of so many records as well,
  * tilsando_sample never returns 10.
  *   answer          the bound, from 1 to TILSANDO_CELLS. 0 says over: it exceeds TILSANDO_CELLS, and so many cells may or may not be enough */
 uint32_t tilsando_bound(const uint8_t *text, size_t text_len, uint64_t *answer, size_t answer_len);

@@ -1,5 +1,5 @@
-/* Prints how many cells the flow in a file takes at most, lends as many, and prints its report; then for each exit a sample, and whether the run on its tapes takes the exit. A file without
- * bytes is a flow, so one that cannot be read must not be taken for it. */
+/* Prints how many cells the flow in a file takes at most, lends as many, and prints its report; then for each exit a sample, and whether the
+ * run on its tapes takes the exit. A file without bytes is a flow, so one that cannot be read must not be taken for it. */
 #include <inttypes.h>
 #include <stdio.h>
 #include <stdlib.h>

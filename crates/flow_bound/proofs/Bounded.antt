@@ -1,5 +1,6 @@
 -- The bound holds (document 02, T-01). Every reachable configuration is one of a list of that length: each instruction with each set of tapes
--- and each pattern. So reachable configurations never outnumber the bound, and no distance exceeds it.
+-- and each pattern. So reachable configurations never outnumber the bound. No distance exceeds it, nor the number of reachable
+-- configurations.
 use mathlib.Core.Path.{_≡_, refl, sym, subst}
 use mathlib.Core.Bool.{Bool, true, false}
 use mathlib.Core.List.{List, [], _∷_, map}
@@ -122,12 +123,16 @@ module _ {flow : Flow} (l : Legal flow) where
       only c (inl e) = subst (Reachable (C1 flow) (C2 flow) flow) (sym e) (reach-reachable legal 0 (origin (C1 flow) (C2 flow) flow) first)
       only c (inr h) = absurd h
 
-  -- no distance exceeds the bound
+  -- ---- no distance exceeds the length of a list with every reachable configuration
+  distance-within : (all : List Configuration) → ((c : Configuration) → Reachable (C1 flow) (C2 flow) flow c → In c all)
+      → (i : ℕ) (e : Exit) (d : ℕ) → Distance flow i e d → d ≤ length all
+  distance-within all holds i e d x =
+      exit-within {G = configurations (C1 flow) (C2 flow) flow} (λ l. omega arith) all
+      (λ c r. holds c (reach-reachable legal (r .0) c (reach-of-path (r .1)))) (Taking i e) d (exit-of-distance legal i e d x)
+
+  pub distance-counted : (list : List Configuration) → Census (Reachable (C1 flow) (C2 flow) flow) list
+      → (i : ℕ) (e : Exit) (d : ℕ) → Distance flow i e d → d ≤ length list
+  distance-counted list c = distance-within list (c .all)
+
   pub distance-bounded : (i : ℕ) (e : Exit) (d : ℕ) → Distance flow i e d → d ≤ boundOf flow
-  distance-bounded i e d x =
-      omega (
-        arith,
-        everywhere-number,
-        exit-within {G = configurations (C1 flow) (C2 flow) flow} (λ l. omega arith) (everywhere flow)
-            (λ c r. reachable-everywhere c (reach-reachable legal (r .0) c (reach-of-path (r .1)))) (Taking i e) d (exit-of-distance legal i e d x),
-      )
+  distance-bounded i e d x = omega (arith, everywhere-number, distance-within (everywhere flow) reachable-everywhere i e d x)

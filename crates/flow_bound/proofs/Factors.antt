@@ -2,13 +2,11 @@
 -- are counted by its rows.
 use mathlib.Core.Path.{_≡_, sym, _∙_}
 use Prim.Native.Nat.{ℕ, _≤_}
-use native.Mathlib.Omega.{arith}
 use lib.ListN.{length, take, length-map}
 use lib.Signed.{leZ}
 use lib.Dec.{T}
 use Rattle.model.specs.Language.{Flow, C1, C2}
 use Rattle.model.specs.Pattern.{widthOf}
-use Rattle.model.specs.inner.Integers.{up}
 use Rattle.model.proofs.Integers.{zarith}
 use Rattle.model.proofs.Constants.{zero-basic}
 use Rattle.flow.specs.Legal.{Legal}
@@ -17,9 +15,9 @@ use Rattle.constants.proofs.Offsets.{offset-is}
 use Rattle.constants.specs.inner.Constants.{offset}
 use Rattle.flow.specs.inner.Rows.{flowOf, instructionOf}
 use Rattle.flow.specs.declared.Flow.{Flow as Rows}
-use Rattle.flow_bound.specs.inner.Capped.{pastCells}
+use Rattle.flow_bound.specs.inner.Capped.{cellsCap}
 
-pub legal-width : (flow : Flow) → Legal flow → widthOf (C1 flow) (C2 flow) ≤ pastCells
+pub legal-width : (flow : Flow) → Legal flow → widthOf (C1 flow) (C2 flow) ≤ cellsCap
 unfolding widthOf offset
 legal-width flow l =
     let ((a, b), (c, d)) = legal-limited flow l in

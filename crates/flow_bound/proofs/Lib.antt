@@ -1,3 +1,3 @@
 pub mod Bounded
-pub mod Capped
+pub mod CapLaws
 pub mod Factors

@@ -8,7 +8,7 @@ ghost use Rattle.flow.specs.Limits.{maxInstructions, maxTapes, maxVariables};
 ghost use Rattle.flow.specs.Legal.{Legal};
 ghost use Rattle.flow.specs.inner.Rows.{flowOf};
 ghost use Rattle.flow_bound.specs.Bound.{boundOf, boundAnswer};
-ghost use Rattle.flow_bound.specs.inner.Capped.{pastCells, cappedCells};
+ghost use Rattle.flow_bound.specs.inner.Capped.{cellsCap, cappedCells};
 use cells::Cell;
 use flow::Flow;
 use flow::Instruction;
@@ -21,43 +21,47 @@ pub enum BoundAnswer {
     Refused(Refusal),
 }
 
-// At most so many cells are used; one more is where numbers are cut off.
+// At most so many cells are used; numbers are cut off at one more.
 const MOST: u64 = Cell::MOST as u64;
 
-const PAST: u64 = MOST + 1;
+const CAP: u64 = MOST + 1;
 
-fn cut(a: u64) -> u64
-    ensures { λ r. ⌜ (r ≡ cappedCells a) × (r ≤ pastCells) ⌝ }
+fn capped(a: u64) -> u64
+    ensures { λ r. ⌜ (r ≡ cappedCells a) × (r ≤ cellsCap) ⌝ }
 {
-    if PAST < a {
-        return PAST;
+    if CAP < a {
+        return CAP;
     }
     a
 }
 
-// x times y and c, cut off.
-fn further(x: u64, y: u64, c: u64) -> u64
-    requires { ⌜ (x ≤ pastCells) × (y ≤ pastCells) × (c ≤ pastCells) ⌝ }
-    ensures { λ r. ⌜ (r ≡ cappedCells (x * y + c)) × (r ≤ pastCells) ⌝ }
+// x times y, plus c, cut off.
+fn times_plus(x: u64, y: u64, c: u64) -> u64
+    requires { ⌜ (x ≤ cellsCap) × (y ≤ cellsCap) × (c ≤ cellsCap) ⌝ }
+    ensures { λ r. ⌜ (r ≡ cappedCells (x * y + c)) × (r ≤ cellsCap) ⌝ }
 {
-    cut(x * y + c)
+    capped(x * y + c)
 }
 
 // The number of patterns of v variables, one factor w at a time.
 fn pattern_count(v: u8, w: u64) -> u64
-    requires { ⌜ (1 ≤ v) × (v ≤ maxVariables) × (w ≤ pastCells) ⌝ }
-    ensures { λ r. ⌜ (r ≡ cappedCells (patternsOf v w)) × (r ≤ pastCells) ⌝ }
+    requires { ⌜ (1 ≤ v) × (v ≤ maxVariables) × (w ≤ cellsCap) ⌝ }
+    ensures { λ r. ⌜ (r ≡ cappedCells (patternsOf v w)) × (r ≤ cellsCap) ⌝ }
 {
     if v == 1 {
-        return further(1, w, 2);
+        return times_plus(1, w, 2);
     }
     if v == 2 {
-        return further(further(1, w, 4), w, 8);
+        return times_plus(times_plus(1, w, 4), w, 8);
     }
     if v == 3 {
-        return further(further(further(1, w, 6), w, 24), w, 44);
+        return times_plus(times_plus(times_plus(1, w, 6), w, 24), w, 44);
     }
-    further(further(further(further(1, w, 8), w, 48), w, 176), w, 308)
+    times_plus(
+        times_plus(times_plus(times_plus(1, w, 8), w, 48), w, 176),
+        w,
+        308,
+    )
 }
 
 // The number of sets of t tapes: 2 to the power t.
@@ -74,7 +78,7 @@ fn tape_sets(t: u8) -> u64
     8
 }
 
-// The number of instructions that the first rows hold.
+// The number of instructions that the first rows hold. All rows are passed because only so is it known how many there are.
 fn instruction_count(instructions: [Instruction; Flow::MAX_INSTRUCTIONS], count: usize) -> u64
     requires { ⌜ count ≤ maxInstructions ⌝ }
     ensures { λ r. ⌜ (r ≡ length (take count instructions)) × (r ≤ maxInstructions) ⌝ }
@@ -102,5 +106,5 @@ pub fn bound_of(flow: Flow) -> BoundAnswer
     let places = instruction_count(instructions, flow.count);
     let ends = tape_sets(flow.tapes);
     let patterns = pattern_count(flow.variables, w);
-    answer_for(further(further(places, ends, 0), patterns, 0))
+    answer_for(times_plus(times_plus(places, ends, 0), patterns, 0))
 }

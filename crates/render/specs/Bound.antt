@@ -1,5 +1,4 @@
 -- The line of a bound: `bound,N` or `bound,over`; or `refused,NUMBER,PLACE`, as of a report.
-use mathlib.Core.Path.{_≡_}
 use mathlib.Core.List.{List, [], _∷_}
 use Prim.Native.Nat.{ℕ}
 use Rattle.text.specs.Bytes.{bytes}

@@ -1,5 +1,5 @@
-// The lines of a report (document 01, "The report") and of a bound, in a row. Every function that is not public puts bytes into the row from a place on, and
-// gives the place behind them.
+// The lines of a report (document 01, "The report") and of a bound, in a row. Every function that is not public puts bytes into the row
+// from a place on, and gives the place behind them.
 ghost use mathlib.Core.Path.{_≡_};
 ghost use mathlib.Core.List.{[], _∷_, _++_};
 ghost use Prim.Native.Nat.{_+_, _*_, _≤_};

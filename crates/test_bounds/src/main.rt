@@ -38,7 +38,7 @@ fn print_flows(file: &[u8]) {
 }
 
 fn main() {
-    let mut file = [0u8; 65536];
+    let mut file = [0u8; 131072];
     let fd = os::open_read(b"flows");
     let n = io::read_full(fd, &mut file);
     libc::close(fd);

@@ -8,7 +8,7 @@ use Rattle.patterns.specs.Patterns.{patternsOf}
 use Rattle.flow.specs.inner.Rows.{flowOf}
 use Rattle.flow_bound.specs.Bound.{boundOf, boundAnswer}
 use Rattle.flow_bound.specs.inner.Capped.{cappedCells}
-use Rattle.flow_bound.proofs.Capped.{answer-product}
+use Rattle.flow_bound.proofs.CapLaws.{answer-product}
 use Rattle.flow_bound.proofs.Factors.{legal-width, rows-count}
 use Rattle.flow_bound.proofs.bound_of.Statement.{statement}
 use Rattle.flow_bound.proofs.bound_of.Tie as tie
@@ -42,8 +42,8 @@ returns c =
     let number = patterns .pattern-count .ensures .0 ∙ ap (λ w. cappedCells (patternsOf (rows .variables) w)) (width-is width) in
     let instructions = rows-count rows (count .instruction-count .result) (count .instruction-count .ensures .0) in
     c .answer-for .ensures
-    ∙ answer-product (count .instruction-count .result) (rows .tapes) (ends .tape-sets .result) (patterns .pattern-count .result) (places .further .result)
-    (whole .further2 .result) _ (ends .tape-sets .ensures .0) number (omega (arith, places .further .ensures .0)) (omega (arith, whole .further2 .ensures .0))
+    ∙ answer-product (count .instruction-count .result) (rows .tapes) (ends .tape-sets .result) (patterns .pattern-count .result) (places .times-plus .result)
+    (whole .times-plus2 .result) _ (ends .tape-sets .ensures .0) number (omega (arith, places .times-plus .ensures .0)) (omega (arith, whole .times-plus2 .ensures .0))
     ∙ ap boundAnswer (rw instructions (omega arith))
 
 pub bound-of-spec : {M : Type 1} → statement M

@@ -1,7 +1,7 @@
 -- `flow_bound::tape_sets` meets its contract.
 use native.Mathlib.Omega.{arith}
 use borrow.Author.Needs.{needs}
-use Rattle.flow_bound.proofs.Capped.{power-at}
+use Rattle.flow_bound.proofs.CapLaws.{power-at}
 use Rattle.flow_bound.proofs.tape_sets.Statement.{statement}
 use Rattle.flow_bound.proofs.tape_sets.Tie as tie
 

@@ -2,10 +2,10 @@
 use Prim.Native.Nat.{ℕ, suc, min}
 use Rattle.cells.specs.Cells.{mostCells}
 
--- the least number past the most cells
-abbrev pub pastCells : ℕ
-pastCells = suc mostCells
+-- one more than the most cells
+abbrev pub cellsCap : ℕ
+cellsCap = suc mostCells
 
 -- n, cut off there
 abbrev pub cappedCells : ℕ → ℕ
-cappedCells n = min n pastCells
+cappedCells n = min n cellsCap

@@ -12,7 +12,7 @@ use Rattle.model.proofs.Integers.{same-test}
 use Rattle.cells.specs.Cells.{mostCells}
 use Rattle.patterns.specs.Patterns.{patternsOf}
 use Rattle.flow_bound.specs.Bound.{boundAnswer}
-use Rattle.flow_bound.specs.inner.Capped.{pastCells, cappedCells}
+use Rattle.flow_bound.specs.inner.Capped.{cellsCap, cappedCells}
 use Rattle.flow_bound.specs.declared.BoundAnswer.the-variants.{AtMost, Over}
 
 -- a product is cut off alike if one factor is
@@ -22,25 +22,35 @@ capped-left a (suc b) = go (decLt mostCells a)
   where
     go : Dec (mostCells < a) → cappedCells (cappedCells a * suc b) ≡ cappedCells (a * suc b)
     go (yes h) =
-        let e : cappedCells a ≡ pastCells = omega arith in
-        rw e (omega (arith, mul-le-mul-right {m = pastCells} {n = a} (suc b) h))
+        let e : cappedCells a ≡ cellsCap = omega arith in
+        rw e (omega (arith, mul-le-mul-right {m = cellsCap} {n = a} (suc b) h))
     go (no h) = let e : cappedCells a ≡ a = omega arith in rw e
 
 pub capped-product : (a b : ℕ) → cappedCells (a * b) ≡ cappedCells (cappedCells a * cappedCells b)
 capped-product a b = omega (arith, capped-left a b, capped-left b (cappedCells a))
 
-pub capped-sum : (a b : ℕ) → cappedCells (a + b) ≡ cappedCells (cappedCells a + b)
-capped-sum a b = omega arith
-
 -- ---- no answer changes
-pub capped-over : (n : ℕ) → ltb mostCells (cappedCells n) ≡ ltb mostCells n
+capped-over : (n : ℕ) → ltb mostCells (cappedCells n) ≡ ltb mostCells n
 capped-over n =
     same-test (ltb mostCells (cappedCells n)) (ltb mostCells n)
     (λ h. lt→ltb mostCells n (omega (arith, ltb→lt mostCells (cappedCells n) h)))
     (λ h. lt→ltb mostCells (cappedCells n) (omega (arith, ltb→lt mostCells n h)))
 
-pub capped-within : (n : ℕ) → ltb mostCells n ≡ false → cappedCells n ≡ n
+capped-within : (n : ℕ) → ltb mostCells n ≡ false → cappedCells n ≡ n
 capped-within n h = omega (arith, ltb-false mostCells n h)
+
+pub answer-capped : (n : ℕ) → boundAnswer (cappedCells n) ≡ boundAnswer n
+unfolding boundAnswer
+answer-capped n = rw (capped-over n) (by (ltb mostCells n) refl)
+  where
+    by : (b : Bool) → ltb mostCells n ≡ b → cond b Over (AtMost (cappedCells n)) ≡ cond b Over (AtMost n)
+    by true h = refl
+    by false h = ap AtMost (capped-within n h)
+
+-- 65,536 itself is a number, one more is over
+pub bound-border : (boundAnswer 65536 ≡ AtMost 65536) × (boundAnswer 65537 ≡ Over)
+unfolding boundAnswer
+bound-border = (refl, refl)
 
 -- ---- the number of patterns, one factor w at a time
 pub capped-step : (a x w c : ℕ) → x ≡ cappedCells a → cappedCells (x * w + c) ≡ cappedCells (a * w + c)
@@ -73,22 +83,14 @@ module _ (v w : ℕ) where
 pub power-at : (t n : ℕ) → t ≡ n → 2 ^ n ≡ 2 ^ t
 power-at t n e = ap (λ (k : ℕ). 2 ^ k) (sym e)
 
-answer-cappedCells : (n : ℕ) → boundAnswer (cappedCells n) ≡ boundAnswer n
-unfolding boundAnswer
-answer-cappedCells n = rw (capped-over n) (by (ltb mostCells n) refl)
-  where
-    by : (b : Bool) → ltb mostCells n ≡ b → cond b Over (AtMost (cappedCells n)) ≡ cond b Over (AtMost n)
-    by true h = refl
-    by false h = ap AtMost (capped-within n h)
-
 -- i instructions times e sets of tapes, times the number x of patterns, which is cut off to p
 pub answer-product : (i t e p m n x : ℕ) → e ≡ 2 ^ t → p ≡ cappedCells x → m ≡ cappedCells (i * e + 0) → n ≡ cappedCells (m * p + 0)
     → boundAnswer n ≡ boundAnswer (i * (2 ^ t) * x)
 answer-product i t e p m n x f a b c =
     let same : i * e + 0 ≡ i * e = omega arith in
     let whole : n ≡ cappedCells (i * (2 ^ t) * x) = rw (sym f, c, b, a, same) (omega (arith, capped-product (i * e) x)) in
-    ap boundAnswer whole ∙ answer-cappedCells (i * (2 ^ t) * x)
+    ap boundAnswer whole ∙ answer-capped (i * (2 ^ t) * x)
 
 -- products of what was cut off fit
-pub product-small : (x y : ℕ) → x ≤ pastCells → y ≤ pastCells → x * y ≤ pastCells * pastCells
-product-small x y a b = omega (arith, mul-le-mul-right {m = x} {n = pastCells} y a)
+pub product-small : (x y : ℕ) → x ≤ cellsCap → y ≤ cellsCap → x * y ≤ cellsCap * cellsCap
+product-small x y a b = omega (arith, mul-le-mul-right {m = x} {n = cellsCap} y a)
