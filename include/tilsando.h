@@ -51,7 +51,7 @@ extern "C" {
 #endif
 
 /* The version of this interface. It rises by 1 with each change after which a program must be changed or compiled anew. */
-#define TILSANDO_VERSION 4
+#define TILSANDO_VERSION 5
 
 /* The limits: bytes of a text; instructions, input tapes, output tapes and variables of a flow; constants; steps of a run; cells used. */
 #define TILSANDO_BYTES 4096
@@ -112,7 +112,7 @@ uint32_t tilsando_bound(const uint8_t *text, size_t text_len, uint64_t *answer, 
 #define TILSANDO_REPORT_CONFIGURATIONS 1
 #define TILSANDO_REPORT_SIZE 2
 
-/* Reports the distance of every exit: the least number of steps, over all tapes, up to and with the first taking of it.
+/* Reports the distance of every exit: the least number of exits taken, over all tapes, up to and with it.
  *   two             1 if the instruction has two exits, else 0
  *   p, m            the distance of exit p and of exit m. 0 says none: no tapes take the exit. It is 0 too where `two` is 0
  *   answer          the number of instructions, the number of reachable configurations */
@@ -126,8 +126,8 @@ uint32_t tilsando_report(const uint8_t *text, size_t text_len,
 #define TILSANDO_SAMPLE_LENGTHS 2
 #define TILSANDO_SAMPLE_SIZE 5
 
-/* Writes a sample for one exit: tapes whose run takes it with as many steps as its distance, and which hold only the records read up to
- * there. To run a sample, pass the T lengths, and their sum as records_len.
+/* Writes a sample for one exit: tapes whose run takes it as exit number d, d being its distance, and which hold only the records read up to
+ * there. To run a sample, pass the T lengths, and their sum as records_len; a limit of TILSANDO_CELLS steps is enough for it to take the exit.
  *   instruction     the number of the instruction, counted from 1
  *   exit            0 for exit m, any other value for exit p
  *   row             gets the records of the tapes, tape 1 first, one after another. It needs as many elements as the distance. Elements

@@ -52,14 +52,17 @@ def chain(head, *lines):
     return flow(head, *(x + (",+" if x.split(",")[0] in ("set", "copy", "nop", "put") else ",+,end") for x in lines), "end: stop")
 
 
+# how many targets a line ends with; 1 for the words that are not here
+TARGETS = {"read": 2, "less": 2, "over": 2, "under": 2, "stop": 0}
+
+
 def later(nops, text):
     """The flow with so many instructions `nop` before it, each a configuration more."""
     first, *rest = text.splitlines()
-    count = {"read": 2, "less": 2, "over": 2, "under": 2, "stop": 0}
     moved = []
     for line in rest:
         i, word, *f = line.split(",")
-        kept = len(f) - count.get(word, 1)
+        kept = len(f) - TARGETS.get(word, 1)
         moved.append(",".join([str(int(i) + nops), word] + f[:kept] + [str(int(x) + nops) for x in f[kept:]]))
     return "".join(x + "\n" for x in [first] + [f"{i},nop,{i + 1}" for i in range(1, nops + 1)] + moved)
 
@@ -466,8 +469,10 @@ for name, head, lines in [
 ]:
     case("wide", name, patient(head, *lines))
 
-# an exit after 4,827 steps, for which the record row is too short
+# 4,827 steps and 4,005 exits: the record row is long enough. Of n digits each round of a variable takes 1 to n - 1 tests for the next digit,
+# and n - 1 where the next variable is due: 44 for 9, and 81, 9 and 1 rounds; 54 for 10, and 100, 10 and 1 rounds. 5,995 exits are too many.
 case("wide", "counted-9-far", counted_with([-9999, -9998, -1001, -1000, 0, 1000, 1001, 9998, 9999], 3))
+case("wide", "counted-10-far", counted_with([-9999, -9998, -1001, -1000, -1, 0, 1000, 1001, 9998, 9999], 3))
 
 # by chance
 some("wide-chance", 12, 7, 2, 1, (5, 9), -9999, 9999)
@@ -591,6 +596,113 @@ case("wide-outside", "four-kept-outside", kept_outside(4, -293, 293, "end"))
 case("wide-outside", "four-in-a-ring", flow("1,0,4", *RING, *unreached(-3, 4)))
 
 
+# ---- exits and not steps (T-04): `put`, `copy`, `set` and `nop` add nothing to a distance
+
+# before the first read or comparison, one of them or each
+case("exits", "nop-first", flow("1,0,1", "nop,+", "read,1,1,+,+", "stop"))
+case("exits", "put-first", flow("1,1,1", "put,1,1,+", "read,1,1,+,+", "stop"))
+case("exits", "copy-first", flow("1,0,2", "copy,2,1,+", "read,1,1,+,+", "stop"))
+case("exits", "set-first", flow("1,0,1", "set,4,1,+", "read,1,1,+,+", "stop"))
+case("exits", "each-first", flow("1,1,2", "put,1,1,+", "set,3,1,+", "copy,1,2,+", "nop,+", "less,1,2,+,+", "nop,+", "over,2,2,+,end", "nop,+",
+     "read,1,1,+,+", "end: stop"))
+case("exits", "63-nops-first", flow("1,0,1", *["nop,+"] * 63, "read,1,1,64,64"))
+# flow A with `nop` before it and behind every exit
+case("exits", "flow-a", flow("1,0,1", "nop,+", "again: read,1,1,+,over", "nop,test", "over: nop,end", "test: over,5,1,+,low", "nop,again",
+     "low: nop,end", "end: stop"))
+# the way with fewer steps takes more exits; in the first it has a record and the other has none, in the second the reverse
+case("exits", "fewer-by-the-end", flow("1,0,1", "read,1,1,+,long", "less,1,1,end,+", "less,1,1,end,goal", "long: nop,+", "nop,+", "nop,+",
+     "nop,+", "goal: over,0,1,end,end", "end: stop"))
+case("exits", "fewer-by-records", flow("1,0,1", "read,1,1,+,short", "nop,+", "nop,+", "read,1,1,+,end", "nop,+", "goal: less,1,1,end,end",
+     "end: stop", "short: less,1,1,end,+", "less,1,1,end,goal"))
+# One configuration at `goal`, met by an exit first and then, with one exit fewer, at the end of a chain. In the second the chain is so
+# long that all behind `goal` was met before. In the third two values of variable 1 arrive, and the read does away with both.
+case("exits", "met-by-an-exit-first", flow("1,0,1", "read,1,1,+,end", "over,0,1,+,long", "set,0,1,+", "less,1,1,end,goal", "long: set,0,1,+",
+     "nop,+", "nop,+", "nop,+", "goal: read,1,1,+,+", "over,0,1,end,end", "end: stop"))
+case("exits", "met-long-before", flow("1,0,1", "read,1,1,+,end", "over,0,1,+,long", "set,0,1,+", "less,1,1,end,goal", "goal: under,1,1,+,end",
+     "less,1,1,end,+", "read,1,1,+,end", "over,0,1,goal,end", "end: stop", "long: set,0,1,+", *["nop,+"] * 39, "nop,goal"))
+case("exits", "met-with-another-value", flow("2,0,2", "read,2,2,+,end", "over,0,2,+,long", "set,0,2,+", "set,5,1,+", "less,1,1,goal,goal",
+     "long: set,0,2,+", "nop,+", "nop,+", "nop,+", "goal: read,1,1,+,+", "over,2,1,+,+", "end: stop"))
+# without end, and without an exit
+case("exits", "nop-to-itself", flow("1,0,1", "read,1,1,+,other", "nop,2", "other: over,0,1,+,+", "stop"))
+case("exits", "nop-to-itself-first", flow("1,0,1", "nop,1", "read,1,1,+,+", "stop"))
+case("exits", "cycle-of-each", flow("1,1,2", "read,1,1,+,other", "again: put,1,1,+", "copy,1,2,+", "set,0,1,+", "nop,again",
+     "other: less,1,2,+,+", "stop"))
+case("exits", "cycle-entered-twice", flow("1,0,1", "read,1,1,one,other", "over,0,1,2,2", "one: nop,+", "nop,+", "other: nop,+", "nop,one"))
+# chains that come to a configuration that is known: in another chain, and where the run began
+case("exits", "chains-meet", flow("1,0,1", "read,1,1,+,end", "over,0,1,+,other", "set,0,1,+", "nop,+", "meet: nop,next", "other: set,0,1,+",
+     "nop,meet", "next: read,1,1,+,+", "end: stop"))
+case("exits", "back-to-the-start", flow("1,0,1", "read,1,1,+,out", "set,0,1,+", "nop,1", "out: over,0,1,+,+", "stop"))
+case("exits", "both-to-one-chain", flow("1,0,1", "read,1,1,+,+", "over,0,1,+,+", "nop,+", "nop,+", "under,1,0,+,+", "nop,+", "stop"))
+case("exits", "ended-behind-a-chain", flow("1,0,1", "read,1,1,end,+", "nop,+", "read,1,1,end,end", "end: stop"))
+# chains to `stop`, and behind a read of many values
+case("exits", "chains-to-stop", flow("1,1,2", "read,1,1,+,out", "put,1,1,+", "copy,1,2,+", "nop,end", "out: set,7,2,+", "end: stop"))
+case("exits", "chains-of-many-values", flow("1,1,2", "read,1,1,+,end", "put,1,1,+", "copy,1,2,+", "nop,+", "under,2,-2,end,+", "nop,+",
+     "over,3,2,end,+", "set,3,1,+", "less,2,1,end,end", "end: stop"))
+# as many between two reads as a flow can have, with `stop` and without it
+case("exits", "61-nops", flow("1,0,1", "read,1,1,+,end", *["nop,+"] * 61, "read,1,1,+,+", "end: stop"))
+case("exits", "62-nops", flow("1,0,1", "read,1,1,+,+", *["nop,+"] * 62, "read,1,1,1,1"))
+case("exits", "60-of-each", flow("1,1,2", "read,1,1,+,end", *["put,1,1,+", "copy,1,2,+", "set,0,2,+", "nop,+"] * 15, "read,1,2,+,+",
+     "less,1,2,+,+", "end: stop"))
+# loops with more steps than exits: a counter that waits after each count, and values that move from variable to variable
+case("exits", "counted-waiting", flow("1,0,3", *counter([2, 2, 2], loop="wait"), "out: less,3,1,+,+", "stop", "wait: nop,+", *["nop,+"] * 38,
+     "nop,more"))
+case("exits", "moved-along", flow("1,0,4", "again: copy,3,4,+", "copy,2,3,+", "copy,1,2,+", "set,1,1,+", "over,0,4,+,again", "nop,+",
+     "read,1,1,+,+", "stop"))
+case("wide-exits", "all-patterns", flow("1,0,1", "nop,+", "read,1,1,+,end", "nop,+", "over,9999,1,+,end", "nop,+", "end: stop",
+     *unreached(-9999)))
+case("wide-exits", "two-below", patient("1,0,2", "read,1,1", "under,1,-9999", "copy,1,2", "nop", "read,1,1", "less,1,2", "set,-9999,2",
+     "less,1,2"))
+# As long as the record row, and longer: 9, 14, 35 and 35 tests in a round of the four variables (4, 5, 8 and 8 digits), 320, 64, 8 and 1
+# rounds. That is 4,091 exits, and more than 5,000 steps; eight tests follow.
+case("wide-exits", "row-4096", flow("1,0,4", *(x.replace("again", "more") for x in counter([4, 5, 8, 8])), "out: less,1,1,+,+",
+     *["less,1,1,+,+"] * 7, "stop"))
+
+
+# ---- flows with instructions `nop` more: each distance stays
+
+def padded(dice, text, more):
+    """A text with so many instructions `nop` more, each in a way from one instruction to another, or before the first; other ways to the same
+    instruction may share it. The new lines stand anywhere. And the number that each instruction now has."""
+    first, *rest = text.splitlines()
+    # by the old numbers, and from 65 on the new instructions; a way is an instruction and the place of the target in its line
+    lines = {int(i): fields for i, *fields in (line.split(",") for line in rest)}
+    ways = [(i, k) for i, f in lines.items() for k in range(len(f) - TARGETS.get(f[0], 1), len(f))]
+    for i, k in ways:
+        lines[i][k] = int(lines[i][k])
+    order = list(lines)
+    for new in range(65, 65 + more):
+        at = dice.below(len(ways) + 1)
+        if at == len(ways):
+            there = order[0]
+            order.insert(0, new)
+        else:
+            i, k = ways[at]
+            there = lines[i][k]
+            for j, n in ways:
+                if (j, n) == (i, k) or lines[j][n] == there and dice.below(4) == 0:
+                    lines[j][n] = new
+            order.insert(1 + dice.below(len(order)), new)
+        lines[new] = ["nop", there]
+        ways.append((new, 1))
+    number = {i: n for n, i in enumerate(order, 1)}
+    for i, k in ways:
+        lines[i][k] = number[lines[i][k]]
+    return "".join(x + "\n" for x in [first, *(",".join(map(str, [number[i], *lines[i]])) for i in order)]), number
+
+
+# some of the flows above, with as many as 64 instructions allow, or fewer
+PADDED = {}
+for seed, (topic, name, more) in enumerate([
+    ("document", "a", 61), ("document", "chain", 20), ("document", "merge", 52), ("document", "control_break", 53), ("document", "match", 15),
+    ("used", "least-and-greatest", 40), ("used", "merge-of-three", 12), ("ends", "which-came-first", 30), ("gaps", "nearer-again-above", 25),
+    ("long", "checked-3-3", 30), ("long", "climbing-4", 30), ("chance-two-tapes", "07", 40), ("chance-three-tapes", "05", 30),
+    ("chance-four-variables", "07", 12), ("nine", "like-pairs", 20), ("exits", "met-by-an-exit-first", 50),
+], 1000):
+    text, number = padded(Dice(seed), TOPICS[topic][name], more)
+    PADDED[f"{topic}-{name}"] = f"{topic}/{name}", number
+    case("padded", f"{topic}-{name}", text)
+
+
 # ---- the reports, and the searches held to each other
 
 class Found:
@@ -621,7 +733,7 @@ class Found:
 
 def by_bounds(found):
     """Holds the second search to the first: the same distances; and whether it saw all, so that each none is one there too."""
-    exits, whole = searches.bounds(found.text, 5000)
+    exits, whole = searches.bounds(found.text, 8000)
     assert found.exits in (None, exits), found.name
     return whole
 
@@ -641,6 +753,32 @@ def by_tapes(found):
     return (count, exits) == (found.count, found.exits)
 
 
+def moved(exits, number):
+    """Distances, by the numbers that the instructions have elsewhere."""
+    return {(number[i], side): d for (i, side), d in exits.items()}
+
+
+def by_padding(flows):
+    """Holds the distances of a flow, and each none, to those of the flow with `nop` in it, for the flows of few configurations, for others by
+    chance, and for those that are stored; configurations may only become more. The number of flows."""
+    dice, grown = Dice(77), 0
+    named = {f"{x.topic}/{x.name}": x for x in flows}
+    few = [(name, x.text, x.count, x.exits) for name, x in named.items() if x.exits is not None and x.count <= 600 and x.text]
+    for k in range(600):
+        text = by_chance(dice, 1 + k % 3, 1 + k % 2, 5 + dice.below(12), -1, 2)
+        few.append((f"by chance, {k}", text, *searches.configurations(text, 65536)))
+    for name, text, count, exits in few:
+        room = 65 - len(text.splitlines())
+        other, number = padded(dice, text, dice.below(room + 1))
+        more, found = searches.configurations(other, 65536)
+        assert found == moved(exits, number) and more >= count, f"{name}: the distances are others with `nop` in it\n{text}{other}"
+        grown += more > count
+    assert 2 * grown > len(few), "in most of the flows a new instruction is run"
+    for name, (of, number) in PADDED.items():
+        assert named[f"padded/{name}"].exits == moved(named[of].exits, number), name
+    return len(few) + len(PADDED)
+
+
 # ---- reports that are written by hand, and how their configurations are counted
 
 BY_HAND = {
@@ -653,7 +791,7 @@ BY_HAND = {
     # at the read 0, 9,994 numbers over 5 and the one above; 10,002; at `stop` the 9,996 of the read, 0 to 5 and the one below
     "wide/flow-a-unreached": "report,4,30001 1,p,1 1,m,1 2,p,2 2,m,2",
     # no read: each instruction that is run stands in one configuration, all but instruction 13
-    "wide/set-four": "report,14,13 5,p,5 5,m,none 6,p,6 6,m,none 7,p,7 7,m,none 8,p,none 8,m,8 10,p,none 10,m,10 11,p,11 11,m,none "
+    "wide/set-four": "report,14,13 5,p,1 5,m,none 6,p,2 6,m,none 7,p,3 7,m,none 8,p,none 8,m,4 10,p,none 10,m,5 11,p,6 11,m,none "
                      "13,p,none 13,m,none",
     # a read has 1; after it are 20,001, then 20,003, then the one with equal values and the one with variable 2 farther, then 1; 3
     "wide/two-equal-below": "report,8,40012 1,p,1 1,m,1 2,p,2 2,m,2 3,p,3 3,m,3 4,p,4 4,m,4 5,p,5 5,m,5 6,p,6 6,m,none",
@@ -706,12 +844,12 @@ BY_HAND = {
                        "16,p,5 16,m,5 17,p,6 17,m,6 18,p,7 18,m,7 19,p,none 19,m,8 20,p,none 20,m,9 21,p,none 21,m,none",
     # -2 to 3: variables 2 and 3 are -2 and 3. 1 up to the read; 8, 7, 6, 5 at the four comparisons by `less`; then four times 1 below, 1 at
     # -2, 4 between, 1 at 3, 1 above; at `stop` 8 and, after the end of the tape, 1. 3 + 26 + 4 * 8 + 9
-    "nine/constants": "report,28,70 3,p,3 3,m,3 4,p,4 4,m,4 5,p,5 5,m,5 6,p,6 6,m,6 7,p,7 7,m,7 "
-                      "8,p,none 8,m,5 9,p,none 9,m,6 10,p,7 10,m,none 11,p,8 11,m,none "
-                      "12,p,none 12,m,7 13,p,none 13,m,8 14,p,none 14,m,9 15,p,10 15,m,none "
-                      "16,p,8 16,m,none 17,p,none 17,m,9 18,p,none 18,m,10 19,p,11 19,m,none "
-                      "20,p,8 20,m,none 21,p,none 21,m,9 22,p,none 22,m,10 23,p,none 23,m,11 "
-                      "24,p,6 24,m,none 25,p,7 25,m,none 26,p,none 26,m,8 27,p,none 27,m,9",
+    "nine/constants": "report,28,70 3,p,1 3,m,1 4,p,2 4,m,2 5,p,3 5,m,3 6,p,4 6,m,4 7,p,5 7,m,5 "
+                      "8,p,none 8,m,3 9,p,none 9,m,4 10,p,5 10,m,none 11,p,6 11,m,none "
+                      "12,p,none 12,m,5 13,p,none 13,m,6 14,p,none 14,m,7 15,p,8 15,m,none "
+                      "16,p,6 16,m,none 17,p,none 17,m,7 18,p,none 18,m,8 19,p,9 19,m,none "
+                      "20,p,6 20,m,none 21,p,none 21,m,7 22,p,none 22,m,8 23,p,none 23,m,9 "
+                      "24,p,4 24,m,none 25,p,5 25,m,none 26,p,none 26,m,6 27,p,none 27,m,7",
     # 0 alone: 1 at the read, then 3 and 2, then twice 1 in each position, and 3 and 1 at `stop`
     "nine/constants-of-0": "report,10,16 1,p,1 1,m,1 2,p,2 2,m,2 3,p,3 3,m,3 4,p,none 4,m,3 5,p,4 5,m,none "
                            "6,p,none 6,m,4 7,p,none 7,m,5 8,p,4 8,m,none 9,p,none 9,m,5",
@@ -833,6 +971,66 @@ BY_HAND = {
                                       "7,p,5 7,m,5 8,p,6 8,m,6 9,p,7 9,m,7 10,p,7 10,m,7 11,p,8 11,m,8 12,p,9 12,m,9",
     # -3 to 4: w = 8; 4,096 + 4,096 + 3,072 + 1,408 + 308 = 12,980, five times
     "wide-outside/four-in-a-ring": "report,7,64900 1,p,1 1,m,1 2,p,2 2,m,2 3,p,3 3,m,3 4,p,4 4,m,4",
+    # Distances in exits. 0 alone has 3 patterns of one variable. 1, 1; at `stop` 3 and, after the end of the tape, 1; the 2 of T-04 is 1
+    "exits/nop-first": "report,3,6 2,p,1 2,m,1",
+    "exits/put-first": "report,3,6 2,p,1 2,m,1",
+    "exits/copy-first": "report,3,6 2,p,1 2,m,1",
+    # 0 to 4: 7 patterns at `stop`, and after the end of the tape 4 is there
+    "exits/set-first": "report,3,10 2,p,1 2,m,1",
+    # 0 to 3: 1 up to the read, nine times; then variable 2 is 3, and variable 1 one of 6 or, after the end of the tape, 3
+    "exits/each-first": "report,10,16 5,p,none 5,m,1 7,p,2 7,m,none 9,p,3 9,m,3",
+    # 63 times 1; at the read 3, and after the end of the tape 3
+    "exits/63-nops-first": "report,64,69 64,p,1 64,m,1",
+    # the 19 of flow A; 1 at the first `nop`, 2 behind the end of the tape, 8 behind a record, 1 behind one over 5, 7 behind another
+    "exits/flow-a": "report,8,38 2,p,1 2,m,1 5,p,2 5,m,2",
+    # 1, 3, 3; 1 at each `nop`, after the end of the tape; 3 and 1, 3 and 1. 8,m is taken by way of 1,m with 2 exits and 6 steps, by way of
+    # 1,p with 4 and 4
+    "exits/fewer-by-the-end": "report,9,19 1,p,1 1,m,1 2,p,none 2,m,2 3,p,none 3,m,3 8,p,4 8,m,2",
+    # 1, and 3 at each of four; 3 and 1; 3 and 3; after the end of the tape 1, 1. 6,m is taken with 3 exits, 6 steps and two records, or with 4
+    # exits, 4 steps and none
+    "exits/fewer-by-records": "report,9,25 1,p,1 1,m,1 4,p,2 4,m,2 6,p,none 6,m,3 8,p,none 8,m,2 9,p,none 9,m,3",
+    # 1, 3; 1, 1; 2, 1, 1, 1; 1 at the read, 3 and 1 at the last comparison and at `stop`. The read is met by 1,p 2,m or by 1,p 2,p 4,m
+    "exits/met-by-an-exit-first": "report,11,20 1,p,1 1,m,1 2,p,2 2,m,2 4,p,none 4,m,3 9,p,3 9,m,3 10,p,4 10,m,4",
+    # 0 to 1: 4 patterns. 1, 4, the 2 over 0, 1; at `goal` 0 and, from below, the 2 over 0; 1, 1, 4; at `stop` 4 and, after the end of the tape,
+    # 1; the 2 that are not over 0, and 40 times 1. 5,m is taken after 5,p 6,m 7,p 8,p
+    "exits/met-long-before": "report,50,64 1,p,1 1,m,1 2,p,2 2,m,2 4,p,none 4,m,3 5,p,3 5,m,7 6,p,none 6,m,4 7,p,5 7,m,5 8,p,6 8,m,6",
+    # 0 to 5: 8 patterns of one variable. 1, 8, 6, 1, 1; 2, 1, 1, 1; at the read 0 and 5; at the last comparison 8 and, after the end of tape 1,
+    # 2; at `stop` these and, after the end of tape 2, 1
+    "exits/met-with-another-value": "report,12,45 1,p,1 1,m,1 2,p,2 2,m,2 5,p,none 5,m,3 10,p,3 10,m,3 11,p,4 11,m,4",
+    # 1, 3, 1, 1
+    "exits/nop-to-itself": "report,4,6 1,p,1 1,m,1 3,p,none 3,m,2",
+    "exits/nop-to-itself-first": "report,3,1 2,p,none 2,m,none",
+    # 1; at `put` and `copy` variable 1 is one of 3, or 0 with one of 2 in variable 2; at `set` both are one of 3, at `nop` variable 2 is; 1, 1
+    "exits/cycle-of-each": "report,7,19 1,p,1 1,m,1 6,p,none 6,m,2",
+    # 1; 3 and 1 at each of four
+    "exits/cycle-entered-twice": "report,6,17 1,p,1 1,m,1 2,p,none 2,m,none",
+    # 1, 3; 1, 1, 1; 2, 1; 1; at `stop` 3 and, after the end of the tape, 1
+    "exits/chains-meet": "report,9,15 1,p,1 1,m,1 2,p,2 2,m,2 8,p,3 8,m,3",
+    # 1, 3, 1, 1, 1
+    "exits/back-to-the-start": "report,5,7 1,p,1 1,m,1 4,p,none 4,m,2",
+    # 1; 3 and 1 at each of six
+    "exits/both-to-one-chain": "report,7,25 1,p,1 1,m,1 2,p,2 2,m,2 5,p,3 5,m,3",
+    # 1, 1, 1; 3 and 1
+    "exits/ended-behind-a-chain": "report,4,7 1,p,1 1,m,1 3,p,none 3,m,2",
+    # 0 to 7: 1, three times 10, 1; 10 and 1
+    "exits/chains-to-stop": "report,6,43 1,p,1 1,m,1",
+    # -2 to 3: 1; 8 at each of four; 7, 7; 6, 6; at `stop` the one below, the one above and 6, and after the end of the tape 1
+    "exits/chains-of-many-values": "report,10,68 1,p,1 1,m,1 5,p,2 5,m,2 7,p,3 7,m,3 9,p,4 9,m,4",
+    # 1, 61 times 3, 3; at `stop` 3 and, after the end of the tape, 3
+    "exits/61-nops": "report,64,193 1,p,1 1,m,1 63,p,2 63,m,2",
+    # 3 and, after the end of the tape, 3, at each of 64
+    "exits/62-nops": "report,64,384 1,p,1 1,m,1 64,p,2 64,m,2",
+    # 1, 60 times 3, 3; at the comparison and at `stop` 13 patterns of two variables and, after the end of the tape, 3
+    "exits/60-of-each": "report,64,216 1,p,1 1,m,1 62,p,2 62,m,2 63,p,3 63,m,3",
+    # The exits in order: 1,p 1,m 4,p 1,p 1,m 4,m 7,p, then the same up to 7,m, and the last. 8, 4, 4; 4, 2, 2; 2, 1, 1; 1, 1; after each of
+    # 7 counts 40
+    "exits/counted-waiting": "report,51,310 1,p,1 1,m,2 4,p,3 4,m,6 7,p,7 7,m,14 10,p,none 10,m,15",
+    # 0 to 1. Four times round, with 4 at each of five; 1, 1; at `stop` 4 and, after the end of the tape, 1
+    "exits/moved-along": "report,8,27 5,p,4 5,m,1 7,p,5 7,m,5",
+    # 1, 1, 20,001, 20,001, 1; at `stop` 20,001 and, after the end of the tape, 1
+    "wide-exits/all-patterns": "report,7,60007 2,p,1 2,m,1 4,p,2 4,m,2",
+    # -9999 to 0: 1, 10,002, 1, 1, 1, 10,004, 1, 1; at `stop` 1 and, after the end of the tape, 2
+    "wide-exits/two-below": "report,9,20015 1,p,1 1,m,1 2,p,2 2,m,2 5,p,3 5,m,3 6,p,4 6,m,4 8,p,5 8,m,none",
 }
 
 
@@ -881,10 +1079,14 @@ def main():
     named = {f"{x.topic}/{x.name}": x for x in flows}
     for name, report in BY_HAND.items():
         assert named[name].report() == report.replace(" ", "\n") + "\n", name
-    assert "refused,10,0" in named["wide/counted-9-far"].samples()
+    # a row as long as the distance is long enough, one that is shorter by 1 is refused
+    for name, last in [("wide/counted-9-far", "55,p,none 55,m,4005,taken"), ("wide/counted-10-far", "61,p,none 61,m,refused,10,0"),
+                       ("wide-exits/row-4096", "51,p,none 51,m,4096,taken 52,p,none 52,m,refused,10,0 "
+                                               "53,p,none 53,m,refused,10,0 54,p,none 54,m,refused,10,0")]:
+        assert named[name].samples().endswith(last.replace(" ", "\n") + "\n"), name
     for name, content in made.items():
         assert "/data/" not in name or len(content) <= 131072, "the programs lend a row of that size"
-    agreed = f"{len(flows)} flows agree; {bounded} searched whole by bounds, {listed} by all short tapes"
+    agreed = f"{len(flows)} flows agree; {bounded} searched whole by bounds, {listed} by all short tapes, {by_padding(flows)} with `nop` in them"
     return stored.compare(["test_reports", "test_samples"], {name: content.encode() for name, content in made.items()}, agreed)
 
 

@@ -1,12 +1,14 @@
 """Three plain searches for the report of a flow, written from documents 01 ("Runs", "Distances and configurations") and 02
-(T-08) alone. They share nothing with the crates, and nothing with each other but the reading of a legal text and, of the first
-and the third, the pattern. Each answers the steps of the first taking of every exit that is taken; the first and the third count
-configurations.
+(T-04, T-08) alone. They share nothing with the crates, and nothing with each other but the reading of a legal text and, of the
+first and the third, the pattern. Each answers the distance of every exit that is taken: the exits taken up to and with its first
+taking, the fewest (T-04); `put`, `copy`, `set` and `nop` add nothing. The first and the third count configurations.
 
-`configurations`  breadth first over instruction, ended tapes and pattern; a read tries every whole number of an interval
-`bounds`          breadth first over instruction, ended tapes and what is known of the variables: bounds on their differences
+`configurations`  over instruction, ended tapes and pattern, from a queue with two ends; a read tries every whole number of an interval
+`bounds`          over instruction, ended tapes and what is known of the variables, bounds on their differences: all states of no
+                  exit, then all of one exit, and so on
 `tapes`           runs the flow on every choice of tapes up to a length with records of an interval
 """
+import collections
 import itertools
 import math
 
@@ -63,11 +65,13 @@ def changed(x, values):
 # ---- configurations
 
 def configurations(text, cells):
-    """The number of reachable configurations and the distances; None if the configurations outnumber the cells."""
+    """The number of reachable configurations and the distances; None if the configurations outnumber the cells. What an exit leads
+    to goes to the end of the queue, what an instruction with one way on leads to goes to its front. So configurations leave the
+    queue by the exits that they take; one that is met again with fewer exits is put into it again, and its first leaving counts."""
     t, v, program = parse(text)
     low, high = min(constants(program)), max(constants(program))
     start = (1, frozenset(), (0,) * v)
-    found, queue, exits, tried = {start: 0}, [start], {}, set()
+    found, queue, left, exits, tried = {start: 0}, collections.deque([start]), set(), {}, set()
 
     def successors(i, ended, values):
         """Pairs: the exit or None, and where the run goes on."""
@@ -91,13 +95,21 @@ def configurations(text, cells):
             values, n = changed(x, values)
             yield None, (n, ended, pattern(values, low, high))
 
-    for here in queue:
+    while queue:
+        here = queue.popleft()
+        if here in left:
+            continue
+        left.add(here)
         for exit, there in successors(*here):
+            distance = found[here] + (1 if exit else 0)
             if exit:
-                exits.setdefault((here[0], exit), found[here] + 1)
-            if there not in found:
-                found[there] = found[here] + 1
-                queue.append(there)
+                exits.setdefault((here[0], exit), distance)
+            if distance < found.get(there, math.inf):
+                found[there] = distance
+                if exit:
+                    queue.append(there)
+                else:
+                    queue.appendleft(there)
                 if len(found) > cells:
                     return None
     return (len(found), exits) if len(found) <= cells else None
@@ -108,7 +120,8 @@ def configurations(text, cells):
 def bounds(text, states):
     """The distances, and whether all was seen: whoever looks at more states than given stops. What is known of the variables is
     a table of upper bounds on x - y for any two of them, and for the number 0, as the variable 0; every bound that follows from
-    the others is in it, so that what is known of the rest stays when a variable gets a record."""
+    the others is in it, so that what is known of the rest stays when a variable gets a record. A level is all states that are arrived
+    at with so many exits and not with fewer; while it is gone through it grows by what follows without an exit."""
     t, v, program = parse(text)
     names = range(v + 1)
 
@@ -143,19 +156,23 @@ def bounds(text, states):
         elif word != "stop":
             yield None, (f[-1], ended, table)
 
-    start = (1, frozenset(), ((0,) * (v + 1),) * (v + 1))
-    found, queue, exits = {start: 0}, [start], {}
-    for here in queue:
-        for exit, there in after(*here):
-            if there[2] is None:
+    seen, exits, distance = set(), {}, 0
+    level = [(1, frozenset(), ((0,) * (v + 1),) * (v + 1))]
+    while level:
+        distance += 1
+        beyond = []
+        for here in level:
+            if here in seen:
                 continue
-            if exit:
-                exits.setdefault((here[0], exit), found[here] + 1)
-            if there not in found:
-                if len(found) == states:
-                    return exits, False
-                found[there] = found[here] + 1
-                queue.append(there)
+            if len(seen) == states:
+                return exits, False
+            seen.add(here)
+            for exit, there in after(*here):
+                if there[2] is not None:
+                    (beyond if exit else level).append(there)
+                    if exit:
+                        exits.setdefault((here[0], exit), distance)
+        level = beyond
     return exits, True
 
 
@@ -183,16 +200,18 @@ def run(program, variables, tapes, limit):
 
 
 def tapes(text, length, margin, limit):
-    """The configurations and the least steps to each exit on tapes with so many records at most, from C1 less the margin to C2
-    plus it, each run for so many steps at most."""
+    """The configurations and the fewest exits up to and with each exit on tapes with so many records at most, from C1 less the margin
+    to C2 plus it, each run for so many steps at most."""
     t, v, program = parse(text)
     low, high = min(constants(program)), max(constants(program))
     records = range(low - margin, high + margin + 1)
     choices = [c for n in range(length + 1) for c in itertools.product(records, repeat=n)]
     found, exits = {(1, frozenset(), (0,) * v)}, {}
     for chosen in itertools.product(choices, repeat=t):
-        for step, (i, exit, (n, ended, values)) in enumerate(run(program, v, chosen, limit), 1):
+        taken = 0
+        for i, exit, (n, ended, values) in run(program, v, chosen, limit):
             found.add((n, ended, pattern(values, low, high)))
             if exit:
-                exits[i, exit] = min(step, exits.get((i, exit), step))
+                taken += 1
+                exits[i, exit] = min(taken, exits.get((i, exit), taken))
     return len(found), exits

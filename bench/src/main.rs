@@ -192,7 +192,8 @@ fn room(cells: &mut [Cell], s: &Subject, full: &Flow) -> Compared {
     line(&format!("report, {}, {} configurations", s.family, s.flow.k), compared)
 }
 
-/// A report by this library and by an older one, in as many cells as the flow has configurations; none of a flow that the older one refuses.
+/// A report by this library and by an older one, in as many cells as the flow has configurations; none of a flow that the older one refuses. The
+/// older one may count steps in its distances: they are none for the same exits, and no smaller.
 #[cfg(before)]
 fn landing(cells: &mut [Cell], s: &Subject) -> Option<Compared> {
     let k = s.flow.k;
@@ -200,7 +201,10 @@ fn landing(cells: &mut [Cell], s: &Subject) -> Option<Compared> {
     if older(cells, s.flow).returned != 0 {
         return None;
     }
-    assert_eq!(ours(k)(cells, s.flow), older(cells, s.flow), "{}: both answer the same", s.family);
+    let (now, then) = (ours(k)(cells, s.flow), older(cells, s.flow));
+    let nearer = |(d, e): (&u32, &u32)| (*d == 0) == (*e == 0) && d <= e;
+    assert!(now.p.iter().zip(&then.p).all(nearer) && now.m.iter().zip(&then.m).all(nearer), "{}: no distance grows", s.family);
+    assert_eq!(Told { p: then.p, m: then.m, ..now }, then, "{}: both answer the same", s.family);
     let compared = in_turn(cells, |cells| s.time(cells, ours(k)), |cells| s.time(cells, older));
     Some(line(&format!("report, {}, {k} configurations", s.family), compared))
 }
@@ -249,11 +253,11 @@ fn main() {
     println!("\n| Wanted | In this run |\n|---|---|");
     wanted("the longest flow read within 2 times plain Rust", &readings[..1]);
     wanted("a run of 1,000,000 steps within 1.5 times plain Rust", &runs);
-    wanted("a report over 65,536 cells within 1.5 times plain Rust", &[reports[4], reports[9], reports[14], reports[19]]);
-    wanted("the same with constants from -9999 to 9999 within 1.1 times plain Rust", &reports[19..]);
+    wanted("a report over 65,536 cells within 1.5 times plain Rust", &[reports[4], reports[9], reports[14], reports[19], reports[24]]);
+    wanted("the same with constants from -9999 to 9999 within 1.1 times plain Rust", &reports[19..20]);
     wanted("twice the configurations in at most 2.3 times the time", &grown);
     let (least, median) = (shown(long.one.least), shown(long.one.median));
-    println!("| a sample of distance 20,000 with 2,000 records in under 100 ms | {least}, the median {median} |");
+    println!("| a sample of 20,000 steps with 2,000 records in under 100 ms | {least}, the median {median} |");
     wanted("1,000 configurations in 65,536 cells within 1.4 times 1,000 cells", &rooms);
     #[cfg(before)]
     {

@@ -21,8 +21,8 @@ static void print_exit(uint64_t i, char exit, uint32_t distance) {
 static void try_exit(size_t n, uint64_t i, char exit) {
     uint32_t why = tilsando_sample(text, n, i, exit == 'p', cells, lent, row, CELLS, answer, TILSANDO_SAMPLE_SIZE);
     printf("sample,%" PRIu64 ",%c,", i, exit);
-    uint64_t distance = answer[TILSANDO_SAMPLE_DISTANCE], part[TILSANDO_TAPE_SIZE];
-    if (why || !distance) {
+    uint64_t part[TILSANDO_TAPE_SIZE];
+    if (why || !answer[TILSANDO_SAMPLE_DISTANCE]) {
         printf(why ? "refused,%" PRIu32 "\n" : "none\n", TILSANDO_NUMBER(why));
         return;
     }
@@ -36,10 +36,10 @@ static void try_exit(size_t n, uint64_t i, char exit) {
             printf(k ? ",%" PRId32 : "%" PRId32, row[part[TILSANDO_TAPE_START] + k]);
         putchar(')');
     }
-    why = tilsando_run(text, n, distance, row, total, lengths, tapes, numbers, CELLS, values, CELLS, taken_p, EACH, taken_m, EACH, answer,
+    /* a sample takes its exit within as many steps as there are configurations, and so within as many as there can be cells */
+    why = tilsando_run(text, n, CELLS, row, total, lengths, tapes, numbers, CELLS, values, CELLS, taken_p, EACH, taken_m, EACH, answer,
         TILSANDO_RUN_SIZE);
-    int taken = (exit == 'p' ? taken_p : taken_m)[i - 1] == 1 && answer[TILSANDO_RUN_STEPS] == distance;
-    puts(!why && taken && answer[TILSANDO_RUN_END] != TILSANDO_FULL ? ",taken" : ",NOT TAKEN");
+    puts(!why && (exit == 'p' ? taken_p : taken_m)[i - 1] ? ",taken" : ",NOT TAKEN");
 }
 
 int main(int argc, char **argv) {

@@ -117,11 +117,21 @@ impl Cells<'_> {
         self.0[t][WAY] as usize
     }
 
-    /// The way of parents to an entry, by distance.
-    pub fn trace(&mut self, at: usize) {
+    /// How many parents up from an entry the first entry is.
+    pub fn depth(&self, at: usize) -> usize {
+        let (mut i, mut steps) = (at, 0);
+        while i > 0 {
+            i = self.0[i][PARENT] as usize;
+            steps += 1;
+        }
+        steps
+    }
+
+    /// The way of parents to an entry, by steps.
+    pub fn trace(&mut self, at: usize, steps: usize) {
         let mut i = at;
-        for d in (0..=self.distance(at) as usize).rev() {
-            self.0[d][WAY] = i as u32;
+        for t in (0..=steps).rev() {
+            self.0[t][WAY] = i as u32;
             i = self.0[i][PARENT] as usize;
         }
     }

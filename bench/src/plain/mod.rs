@@ -104,13 +104,14 @@ pub fn sample(text: &[u8], instruction: u64, exit: bool, cells: &mut [Cell], row
         let Some(k) = searching::nearest(cells, n, &plan, &table, instruction as usize, exit) else {
             return Ok(None);
         };
-        let steps = cells.distance(k) as usize;
-        if row.len() < steps + 1 {
+        let distance = cells.distance(k) + 1;
+        if row.len() < distance as usize {
             return Err((10, 0));
         }
-        cells.trace(k);
+        let steps = cells.depth(k);
+        cells.trace(k, steps);
         let lengths = sampling::write(cells, steps, &plan, &table, exit, row);
-        Ok(Some(Sample { distance: steps as u32 + 1, tapes: flow.tapes, lengths }))
+        Ok(Some(Sample { distance, tapes: flow.tapes, lengths }))
     });
     if sampled.is_err() {
         cells.clear();

@@ -1,4 +1,4 @@
-//! The breadth-first search over the configurations of a flow.
+//! The search over the configurations of a flow in the order of distance, which counts exits.
 
 use super::cells::Cells;
 use super::configuration::{self as configuration, Action, Op, Words};
@@ -32,15 +32,25 @@ pub fn search(cells: &mut Cells, plan: &Plan, table: &[u16]) -> Option<usize> {
     }
     let mut n = 0;
     cells.visit(&mut n, size, plan.start.place, plan.start.pattern, 0, 0)?;
-    let mut k = 0;
-    while k < n {
-        let x = Words { place: cells.place(k), pattern: cells.pattern(k) };
-        let op = &plan.ops[configuration::at(x.place) - 1];
-        let d = cells.distance(k) + 1;
-        fan(cells, &mut n, size, k, d, op, plan.w, x, table)?;
-        let y = configuration::next(op, plan.w, x, table);
-        cells.visit(&mut n, size, y.place, y.pattern, d, k)?;
-        k += 1;
+    // steps without an exit are followed first, so that distances never fall along the index
+    let (mut settled, mut expanded) = (0, 0);
+    while expanded < n {
+        let quiet = settled < n;
+        let k = if quiet { settled } else { expanded };
+        let place = cells.place(k);
+        let op = &plan.ops[configuration::at(place) - 1];
+        if quiet != matches!(op.action, Action::Read | Action::Test) {
+            let x = Words { place, pattern: cells.pattern(k) };
+            let d = cells.distance(k) + u32::from(!quiet);
+            fan(cells, &mut n, size, k, d, op, plan.w, x, table)?;
+            let y = configuration::next(op, plan.w, x, table);
+            cells.visit(&mut n, size, y.place, y.pattern, d, k)?;
+        }
+        if quiet {
+            settled += 1;
+        } else {
+            expanded += 1;
+        }
     }
     Some(n)
 }

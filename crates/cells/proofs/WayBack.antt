@@ -1,173 +1,118 @@
--- The way of parents, written from its end: path holds the entries from place d on, each the parent of the next. Each step back is one
--- step nearer, so that the entry at place d has distance d, and place 0 holds the first entry.
-use mathlib.Core.Path.{_≡_, refl, sym, ap, _∙_, subst, subst₂}
+-- The way of parents. Each parent is before its entry, so that the first entry is reached. The way is counted up from its end, and then written
+-- from there.
+use mathlib.Core.Path.{_≡_, refl, sym, ap, _∙_, subst}
 use mathlib.Core.List.{List}
-use mathlib.Core.Logic.{_⊎_, inl, inr}
-use Prim.Native.Nat.{ℕ, _+_, _-_, _≤_, _<_}
+use Prim.Native.Nat.{ℕ, zero, suc, _+_, _-_, _≤_, _<_}
 use native.Mathlib.Decide.{ℕ-discrete}
 use native.Mathlib.Omega.{arith}
-use lib.ListN.{length, getD, set, length-set}
+use lib.ListN.{length, getD, set}
 use lib.Seq.{getD-set-same, getD-set-other}
-use Rattle.cells.specs.inner.Columns.{distanceField, parentField, wayField, column, Only, Stored}
-use Rattle.cells.specs.inner.Way.{Parents, Traced}
+use Rattle.cells.specs.inner.Columns.{parentField, wayField, column, Only, Stored}
+use Rattle.cells.specs.inner.Way.{Parents, ancestor, Depth, Traced}
 use Rattle.cells.proofs.Fields.{length-column}
 
--- the walk stands at entry i, at place d
-pub record Tracing (distances parents path₀ path : List ℕ) (n at last i d : ℕ) : Type 0 where
-  pub size : length path ≡ length path₀
-  pub room : last < length path₀
-  pub below : d ≤ last
-  pub here : getD path d 0 ≡ i
-  pub ends : getD path last 0 ≡ at
-  pub entry : (f : ℕ) → d ≤ f → f ≤ last → getD path f 0 < n
-  pub level : (f : ℕ) → d ≤ f → f ≤ last → getD distances (getD path f 0) 0 ≡ f
-  pub link : (f : ℕ) → d ≤ f → f < last → getD parents (getD path (f + 1) 0) 0 ≡ getD path f 0
+-- one parent further up
+up : (parents : List ℕ) (s i : ℕ) {m : ℕ} → m ≡ s + 1 → ancestor parents m i ≡ getD parents (ancestor parents s i) 0
+unfolding ancestor
+up parents s i {m} e = let x : m ≡ suc s = omega arith in ap (λ (v : ℕ). ancestor parents v i) x
 
-pub trace-start : (distances parents path : List ℕ) (n at last : ℕ) → at < n → last ≡ getD distances at 0 → last < length path
-    → Tracing distances parents (set path last at) (set path last at) n at last at last
-trace-start distances parents path n at last l e room =
+-- entry i is s parents up from entry `at`, and none below it is the first
+pub record Counted (parents : List ℕ) (at i s : ℕ) : Type 0 where
+  pub here : ancestor parents s at ≡ i
+  pub later : (t : ℕ) → t < s → 0 < ancestor parents t at
+
+pub count-start : (parents : List ℕ) (at : ℕ) → Counted parents at at 0
+unfolding ancestor
+count-start parents at = record { here = refl; later = λ t l. absurd (omega arith) }
+
+pub count-more : {parents : List ℕ} {at i s : ℕ} → Counted parents at i s → 0 < i → (j : ℕ) → j ≡ getD parents i 0 → Counted parents at j (s + 1)
+count-more {parents} {at} {i} {s} c l j e =
     record {
-      size = refl;
-      room = simp length-set room;
-      below = omega arith;
-      here = same;
-      ends = same;
-      entry = λ f a b. omega (arith, there f (omega arith));
-      level = λ f a b. ap (λ (v : ℕ). getD distances v 0) (there f (omega arith)) ∙ sym e ∙ omega arith;
-      link = λ f a b. absurd (omega arith);
+      here = up parents s at refl ∙ ap (λ (v : ℕ). getD parents v 0) (c .here) ∙ sym e;
+      later = λ t m. go t m (ℕ-discrete t s);
     }
   where
-    same : getD (set path last at) last 0 ≡ at
-    same = getD-set-same path last at 0 room
+    go : (t : ℕ) → t < s + 1 → Dec (t ≡ s) → 0 < ancestor parents t at
+    go t m (yes x) = omega (arith, ap (λ (v : ℕ). ancestor parents v at) x, c .here)
+    go t m (no x) = c .later t (omega arith)
 
-    there : (f : ℕ) → f ≡ last → getD (set path last at) f 0 ≡ at
-    there f s = ap (λ (v : ℕ). getD (set path last at) v 0) s ∙ same
+module _ {parents : List ℕ} {n at : ℕ} (ps : Parents parents n) (l : at < n) where
+  -- each parent is earlier
+  pub ancestor-falls : (s : ℕ) → ((t : ℕ) → t < s → 0 < ancestor parents t at) → ancestor parents s at + s ≤ at
+  unfolding ancestor
+  ancestor-falls zero later = omega arith
+  ancestor-falls (suc s) later =
+      let h = ancestor-falls s (λ t m. later t (omega arith)) in
+      omega (arith, h, ps .before (ancestor parents s at) (later s (omega arith)) (omega (arith, h)))
 
-module _ {distances parents path₀ path : List ℕ} {n at last i d : ℕ} (ps : Parents distances parents n)
-    (h : Tracing distances parents path₀ path n at last i d) where
-  pub entry-below : i < n
-  entry-below = omega (arith, h .here, h .entry d (omega arith) (h .below))
+  pub depth-small : {s : ℕ} → Depth parents at s → s ≤ at
+  depth-small {s} d = omega (arith, ancestor-falls s (d .later))
 
-  level-here : getD distances i 0 ≡ d
-  level-here = ap (λ (v : ℕ). getD distances v 0) (sym (h .here)) ∙ h .level d (omega arith) (h .below)
+-- ---- the way, written from its end: path holds the entries from step t on, and i comes next
+pub record Tracing (parents path : List ℕ) (at steps i t : ℕ) : Type 0 where
+  pub below : t ≤ steps + 1
+  pub next : (s : ℕ) → s + t ≡ steps + 1 → ancestor parents s at ≡ i
+  pub written : (s u : ℕ) → t ≤ u → s + u ≡ steps → getD path u 0 ≡ ancestor parents s at
 
-  not-first : 0 < d → 0 < i
-  not-first more = go (ℕ-discrete i 0)
+pub trace-start : (parents path : List ℕ) (at steps : ℕ) → Tracing parents path at steps at (steps + 1)
+unfolding ancestor
+trace-start parents path at steps =
+    record {
+      below = omega arith;
+      next = λ s e. let z : s ≡ 0 = omega arith in ap (λ (v : ℕ). ancestor parents v at) z;
+      written = λ s u a b. absurd (omega arith);
+    }
+
+module _ {parents path : List ℕ} {at steps i t : ℕ} (h : Tracing parents path at steps i t) where
+  pub trace-more : 0 < t → t - 1 < length path → (j : ℕ) → j ≡ getD parents i 0 → Tracing parents (set path (t - 1) i) at steps j (t - 1)
+  trace-more more room j e =
+      record {
+        below = omega (arith, h .below);
+        next = λ s x.
+            up parents (s - 1) at (omega (arith, h .below)) ∙ ap (λ (v : ℕ). getD parents v 0) (h .next (s - 1) (omega (arith, h .below))) ∙ sym e;
+        written = λ s u a x. go s u a x (ℕ-discrete u (t - 1));
+      }
     where
-      go : Dec (i ≡ 0) → 0 < i
-      go (yes e) = absurd (omega (arith, level-here, ap (λ (v : ℕ). getD distances v 0) e, ps .origin))
-      go (no e) = omega arith
+      go : (s u : ℕ) → t - 1 ≤ u → s + u ≡ steps → Dec (u ≡ t - 1) → getD (set path (t - 1) i) u 0 ≡ ancestor parents s at
+      go s u a x (yes y) =
+          ap (λ (v : ℕ). getD (set path (t - 1) i) v 0) y ∙ getD-set-same path (t - 1) i 0 room ∙ sym (h .next s (omega arith))
+      go s u a x (no y) = getD-set-other path (t - 1) u i 0 y ∙ h .written s u (omega arith) x
 
-  module _ (more : 0 < d) (j : ℕ) (e : j ≡ getD parents i 0) where
-    pub parent-below : j < n
-    parent-below = omega (arith, ps .before i (not-first more) entry-below, entry-below)
+  module _ {n : ℕ} (ps : Parents parents n) (l : at < n) (d : Depth parents at steps) where
+    pub trace-before : 0 < t → i ≤ at
+    trace-before more =
+        let s = steps + 1 - t in
+        omega (arith, h .next s (omega (arith, h .below)), ancestor-falls ps l s (λ u m. d .later u (omega arith)))
 
-    at-new : (f : ℕ) → f ≡ d - 1 → getD (set path (d - 1) j) f 0 ≡ j
-    at-new f s =
-        ap (λ (v : ℕ). getD (set path (d - 1) j) v 0) s ∙ getD-set-same path (d - 1) j 0 (omega (arith, h .below, h .room, h .size))
-
-    old : (f : ℕ) → d ≤ f → getD (set path (d - 1) j) f 0 ≡ getD path f 0
-    old f l = getD-set-other path (d - 1) f j 0 (omega arith)
-
-    level-parent : getD distances j 0 ≡ d - 1
-    level-parent = omega (arith, ap (λ (v : ℕ). getD distances v 0) e, ps .nearer i (not-first more) entry-below, level-here)
-
-    cut : (f : ℕ) → d - 1 ≤ f → (f ≡ d - 1) ⊎ (d ≤ f)
-    cut f l = go (ℕ-discrete f (d - 1))
-      where
-        go : Dec (f ≡ d - 1) → (f ≡ d - 1) ⊎ (d ≤ f)
-        go (yes s) = inl s
-        go (no s) = inr (omega arith)
-
-    entry : (f : ℕ) → (f ≡ d - 1) ⊎ (d ≤ f) → f ≤ last → getD (set path (d - 1) j) f 0 < n
-    entry f (inl s) b = omega (arith, at-new f s, parent-below)
-    entry f (inr s) b = omega (arith, old f s, h .entry f s b)
-
-    level : (f : ℕ) → (f ≡ d - 1) ⊎ (d ≤ f) → f ≤ last → getD distances (getD (set path (d - 1) j) f 0) 0 ≡ f
-    level f (inl s) b = ap (λ (v : ℕ). getD distances v 0) (at-new f s) ∙ level-parent ∙ sym s
-    level f (inr s) b = ap (λ (v : ℕ). getD distances v 0) (old f s) ∙ h .level f s b
-
-    link : (f : ℕ) → (f ≡ d - 1) ⊎ (d ≤ f) → f < last → getD parents (getD (set path (d - 1) j) (f + 1) 0) 0 ≡ getD (set path (d - 1) j) f 0
-    link f (inl s) b =
-        let g : f + 1 ≡ d = omega arith in
-        ap (λ (v : ℕ). getD parents v 0) (ap (λ (v : ℕ). getD (set path (d - 1) j) v 0) g ∙ old d (omega arith) ∙ h .here) ∙ sym e ∙ sym (at-new f s)
-    link f (inr s) b = ap (λ (v : ℕ). getD parents v 0) (old (f + 1) (omega arith)) ∙ h .link f s b ∙ sym (old f s)
-
-    pub trace-more : Tracing distances parents path₀ (set path (d - 1) j) n at last j (d - 1)
-    trace-more =
+    pub trace-end : t ≤ 0 → Traced parents path n at steps
+    unfolding ancestor
+    trace-end z =
         record {
-          size = length-set path (d - 1) j ∙ h .size;
-          room = h .room;
-          below = omega (arith, h .below);
-          here = at-new (d - 1) refl;
-          ends = old last (h .below) ∙ h .ends;
-          entry = λ f a. entry f (cut f a);
-          level = λ f a. level f (cut f a);
-          link = λ f a. link f (cut f a);
+          starts = is steps 0 (omega arith) ∙ d .first;
+          ends = is 0 steps (omega arith);
+          entry = λ u a. omega (arith, is (steps - u) u (omega arith), ancestor-falls ps l (steps - u) (λ v m. d .later v (omega arith)));
+          later = λ u a b. omega (arith, is (steps - u) u (omega arith), d .later (steps - u) (omega arith));
+          link = λ u a.
+              ap (λ (v : ℕ). getD parents v 0) (is (steps - u - 1) (u + 1) (omega arith))
+              ∙ sym (up parents (steps - u - 1) at {m = steps - u} (omega arith)) ∙ sym (is (steps - u) u (omega arith));
         }
+      where
+        is : (s u : ℕ) → s + u ≡ steps → getD path u 0 ≡ ancestor parents s at
+        is s u = h .written s u (omega arith)
 
-  pub trace-end : d ≤ 0 → (last′ : ℕ) → last ≡ last′ → Traced distances parents path n at last′
-  trace-end z last′ same =
-      subst (λ (m : ℕ). Traced distances parents path n at m) same
-      (record {
-        starts = first (ℕ-discrete (getD path 0 0) 0);
-        ends = h .ends;
-        entry = λ f. h .entry f (omega arith);
-        level = λ f. h .level f (omega arith);
-        link = λ f. h .link f (omega arith);
-      })
-    where
-      first : Dec (getD path 0 0 ≡ 0) → getD path 0 0 ≡ 0
-      first (yes e) = e
-      first (no e) =
-          absurd
-          (omega
-          (arith, h .level 0 (omega arith) (omega arith), ps .nearer (getD path 0 0) (omega arith) (h .entry 0 (omega arith) (omega arith))))
-
--- only the first entry stands at place 0
-pub way-later : {distances parents path : List ℕ} {n at last : ℕ} → Parents distances parents n → Traced distances parents path n at last
-    → (d : ℕ) → 0 < d → d ≤ last → 0 < getD path d 0
-way-later {distances} {parents} {path} ps t d more l = go (ℕ-discrete (getD path d 0) 0)
-  where
-    go : Dec (getD path d 0 ≡ 0) → 0 < getD path d 0
-    go (yes e) = absurd (omega (arith, t .level d l, ap (λ (v : ℕ). getD distances v 0) e, ps .origin))
-    go (no e) = omega arith
-
--- ---- in the cells: the way is written into its field
-module _ (c c₁ : List (List ℕ)) (n at last : ℕ) (ps : Parents (column distanceField c) (column parentField c) n) (l : at < n) (far : last ≡ getD (column distanceField c) at 0)
-    (s : Stored wayField last at c c₁) where
-  pub parents-then : Parents (column distanceField c₁) (column parentField c₁) n
-  parents-then = subst₂ (λ (d p : List ℕ). Parents d p n) (sym (s .other distanceField (omega arith))) (sym (s .other parentField (omega arith))) ps
-
-  pub traced-first : last < length c → Tracing (column distanceField c₁) (column parentField c₁) (column wayField c₁) (column wayField c₁) n at last at last
-  traced-first room =
-      subst (λ (q : List ℕ). Tracing (column distanceField c₁) (column parentField c₁) q q n at last at last) (sym (s .is))
-      (trace-start (column distanceField c₁) (column parentField c₁) (column wayField c) n at last l
-      (far ∙ ap (λ (t : List ℕ). getD t at 0) (sym (s .other distanceField (omega arith)))) (omega (arith, length-column wayField c)))
-
-  pub traced-last : (path : List ℕ) → Traced (column distanceField c₁) (column parentField c₁) path n at last
-      → Traced (column distanceField c) (column parentField c) path n at (getD (column distanceField c) at 0)
-  traced-last path t =
-      subst (λ (m : ℕ). Traced (column distanceField c) (column parentField c) path n at m) far
-      (subst₂ (λ (d p : List ℕ). Traced d p path n at last) (s .other distanceField (omega arith)) (s .other parentField (omega arith)) t)
-
--- where the loop stands: only the field of the way has changed since it began
-pub record TracingIn (c₀ c : List (List ℕ)) (n at last i d : ℕ) : Type 0 where
-  pub tracing : Tracing (column distanceField c₀) (column parentField c₀) (column wayField c₀) (column wayField c) n at last i d
+-- ---- in the cells: only the field of the way changes
+pub record TracingIn (c₀ c : List (List ℕ)) (at steps i t : ℕ) : Type 0 where
+  pub tracing : Tracing (column parentField c₀) (column wayField c) at steps i t
   pub only : Only wayField c₀ c
   pub size : length c ≡ length c₀
 
-module _ (c₀ c c′ : List (List ℕ)) {n at last i d : ℕ} (j : ℕ) (ps : Parents (column distanceField c₀) (column parentField c₀) n) (h : TracingIn c₀ c n at last i d)
-    (more : 0 < d) (e : j ≡ getD (column parentField c) i 0) where
-  pub parent-is : j ≡ getD (column parentField c₀) i 0
-  parent-is = e ∙ ap (λ (t : List ℕ). getD t i 0) (h .only parentField (omega arith))
-
-  pub traced-more : Stored wayField (d - 1) j c c′ → length c′ ≡ length c → TracingIn c₀ c′ n at last j (d - 1)
-  traced-more s size =
-      record {
-        tracing =
-            subst (λ (q : List ℕ). Tracing (column distanceField c₀) (column parentField c₀) (column wayField c₀) q n at last j (d - 1)) (sym (s .is))
-            (trace-more ps (h .tracing) more j parent-is);
-        only = λ g n. s .other g n ∙ h .only g n;
-        size = size ∙ h .size;
-      }
+pub traced-more : (c₀ c c′ : List (List ℕ)) {at steps i t : ℕ} (j : ℕ) → TracingIn c₀ c at steps i t → 0 < t → t - 1 < length c
+    → Stored wayField (t - 1) i c c′ → length c′ ≡ length c → j ≡ getD (column parentField c′) i 0 → TracingIn c₀ c′ at steps j (t - 1)
+traced-more c₀ c c′ {at} {steps} {i} {t} j h more room s size e =
+    record {
+      tracing = subst (λ (q : List ℕ). Tracing (column parentField c₀) q at steps j (t - 1)) (sym (s .is))
+          (trace-more (h .tracing) more (omega (arith, length-column wayField c)) j
+          (e ∙ ap (λ (q : List ℕ). getD q i 0) (s .other parentField (omega arith) ∙ h .only parentField (omega arith))));
+      only = λ g n. s .other g n ∙ h .only g n;
+      size = size ∙ h .size;
+    }

@@ -8,7 +8,7 @@ ghost use Rattle.cells.specs.inner.Columns.{half, placeField, patternFie
 ghost use Rattle.cells.specs.inner.Index.{node, foldOf, bucketOf, FoundIs};
 ghost use Rattle.cells.specs.inner.Entries.{entriesOf, FilledIn, LatestIn, Added, BegunIn};
 ghost use Rattle.cells.specs.inner.Marks.{isMarked, marking};
-ghost use Rattle.cells.specs.inner.Way.{Parents, Traced};
+ghost use Rattle.cells.specs.inner.Way.{Parents, Depth, Traced};
 
 // How many numbers half a word holds.
 const HALF: u64 = 4294967296;
@@ -283,21 +283,34 @@ pub fn mark(cells: &mut [[u32; Cell::WORDS]], i: usize, v: usize)
     put(cells, i, Cell::MARKS, m);
 }
 
-// Writes the way of parents to an entry, by distance: cell d holds which entry of the way has distance d.
-pub fn trace(cells: &mut [[u32; Cell::WORDS]], n: usize, at: usize)
-    requires { ⌜ Parents (column distanceField (now cells)) (column parentField (now cells)) n ⌝ }
+// How many parents up from an entry the first entry is.
+pub fn depth(cells: &[[u32; Cell::WORDS]], n: usize, at: usize) -> usize
+    requires { ⌜ Parents (column parentField (now cells)) n ⌝ }
     requires { ⌜ at < n ⌝ }
-    requires { ⌜ getD (column distanceField (now cells)) at 0 < length (now cells) ⌝ }
-    ensures { λ _. ⌜ Traced (column distanceField (now (cells .entry))) (column parentField (now (cells .entry))) (column wayField (now (cells .exit))) n at
-        (getD (column distanceField (now (cells .entry))) at 0) ⌝ }
+    ensures { λ r. ⌜ Depth (column parentField (now (cells .entry))) at r ⌝ }
+{
+    let mut i = at;
+    let mut s = 0;
+    while 0 < i {
+        i = wide(get(cells, i, Cell::PARENT));
+        s += 1;
+    }
+    s
+}
+
+// Writes the way of parents to an entry that is so many steps below the first: cell t holds the entry at step t.
+pub fn trace(cells: &mut [[u32; Cell::WORDS]], n: usize, at: usize, steps: usize)
+    requires { ⌜ Parents (column parentField (now cells)) n ⌝ }
+    requires { ⌜ at < n ⌝ }
+    requires { ⌜ Depth (column parentField (now cells)) at steps ⌝ }
+    ensures { λ _. ⌜ Traced (column parentField (now (cells .entry))) (column wayField (now (cells .exit))) n at steps ⌝ }
     ensures { λ _. ⌜ Only wayField (now (cells .entry)) (now (cells .exit)) ⌝ }
 {
     let mut i = at;
-    let mut d = wide(get(cells, at, Cell::DISTANCE));
-    put(cells, d, Cell::WAY, at as u32);
-    while 0 < d {
+    let mut t = steps + 1;
+    while 0 < t {
+        t -= 1;
+        put(cells, t, Cell::WAY, i as u32);
         i = wide(get(cells, i, Cell::PARENT));
-        d -= 1;
-        put(cells, d, Cell::WAY, i as u32);
     }
 }

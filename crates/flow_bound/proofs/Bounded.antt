@@ -11,6 +11,7 @@ use lib.ListN.{length, length-map}
 use Rattle.graph.specs.Lists.{In, Once, Census, MoreThan}
 use Rattle.graph.proofs.Counting.{once-le, listed, length-listed, listed-in, in-map}
 use Rattle.graph.proofs.Levels.{exit-within}
+use Rattle.graph.specs.inner.Graph.{here}
 use Rattle.model.specs.Language.{Flow, C1, C2}
 use Rattle.model.specs.Machine.{State, Exit, run}
 use Rattle.model.specs.Pattern.{Mark, pattern, widthOf}
@@ -18,10 +19,9 @@ use Rattle.model.specs.Distance.{Distance}
 use Rattle.model.specs.Configuration.{Configuration, Reachable}
 use Rattle.model.specs.inner.View.{LegalFlow}
 use Rattle.model.proofs.Lists.{all-of}
-use Rattle.model.proofs.Runs.{Fair, fair-run}
-use Rattle.model.proofs.Graph.{origin, first}
-use Rattle.model.proofs.Theorems.{reach-reachable}
-use Rattle.model.proofs.Paths.{configurations, Taking, reach-of-path, exit-of-distance}
+use Rattle.model.proofs.Runs.{Fair, fair-run, weight-small}
+use Rattle.model.proofs.Graph.{origin, configurations}
+use Rattle.model.proofs.Theorems.{Taking, exit-of-distance, reached-reachable}
 use Rattle.outside.specs.inner.Rows.{bind, rows}
 use Rattle.outside.proofs.Rows.{in-bind, in-rows, length-bind, length-rows}
 use Rattle.patterns.specs.Patterns.{patternsOf}
@@ -120,15 +120,15 @@ module _ {flow : Flow} (l : Legal flow) where
   bound-positive = once-bounded (origin (C1 flow) (C2 flow) flow ∷ []) (λ h. h, tt) only
     where
       only : (c : Configuration) → In c (origin (C1 flow) (C2 flow) flow ∷ []) → Reachable (C1 flow) (C2 flow) flow c
-      only c (inl e) = subst (Reachable (C1 flow) (C2 flow) flow) (sym e) (reach-reachable legal 0 (origin (C1 flow) (C2 flow) flow) first)
+      only c (inl e) = subst (Reachable (C1 flow) (C2 flow) flow) (sym e) (reached-reachable legal (origin (C1 flow) (C2 flow) flow) (0, here))
       only c (inr h) = absurd h
 
   -- ---- no distance exceeds the length of a list with every reachable configuration
   distance-within : (all : List Configuration) → ((c : Configuration) → Reachable (C1 flow) (C2 flow) flow c → In c all)
       → (i : ℕ) (e : Exit) (d : ℕ) → Distance flow i e d → d ≤ length all
   distance-within all holds i e d x =
-      exit-within {G = configurations (C1 flow) (C2 flow) flow} (λ l. omega arith) all
-      (λ c r. holds c (reach-reachable legal (r .0) c (reach-of-path (r .1)))) (Taking i e) d (exit-of-distance legal i e d x)
+      exit-within {G = configurations (C1 flow) (C2 flow) flow} weight-small all
+      (λ c r. holds c (reached-reachable legal c r)) (Taking i e) d (exit-of-distance legal i e d x)
 
   pub distance-counted : (list : List Configuration) → Census (Reachable (C1 flow) (C2 flow) flow) list
       → (i : ℕ) (e : Exit) (d : ℕ) → Distance flow i e d → d ≤ length list

@@ -12,9 +12,9 @@ use Rattle.graph.specs.Lists.{Census}
 use Rattle.graph.specs.inner.Graph.{Graph, Reached, ExitDistance, NoExit}
 use Rattle.graph.proofs.Complete.{census-count}
 use Rattle.graph.proofs.Wanted.{Tells, nearest-distance, first-nearest, none-no-exit}
-use Rattle.graph.proofs.Search.{search-start, push-one, seen, advance, finish}
+use Rattle.graph.proofs.Search.{Next, search-start, push, push-next, next-expanded, settle, expand, finish}
 use Rattle.graph.proofs.Chain.{Chain, ChainLeads, chain-start, chain-set, chain-leads}
-use Rattle.graph.specs.inner.Table.{Table, Closed, Expanded, Searching}
+use Rattle.graph.specs.inner.Table.{Table, Held, Fresh, Pushed, Closed, Searching}
 
 data Town : Type 0 where
   a b c d e f : Town
@@ -63,42 +63,59 @@ node-place (suc (suc (suc zero))) l = refl
 node-place (suc (suc (suc (suc zero)))) l = refl
 node-place (suc (suc (suc (suc (suc i))))) l = absurd (omega arith)
 
+-- the search, and that what entry k leads to comes next
+abbrev Turn : (n u k : ℕ) → Type 0
+Turn n u k = Searching roads (entries n) u k × Next (entries n) u k (entries n .dist k + 1)
+
+-- no edge costs nothing, so that an entry is settled as it stands; with all settled entry k has its turn
+settled : (n u k : ℕ) → u < n → Searching roads (entries n) u k → Searching roads (entries n) (u + 1) k
+settled n u k late s = settle s late (λ l y e free. absurd (omega arith))
+
+turn : (n k : ℕ) → k < n → Searching roads (entries n) n k → Turn n n k
+turn n k stored s = (s, next-expanded s stored (omega arith))
+
 -- entry n is new, behind the edge l of entry k
-found : (n k : ℕ) (l : Bool) → Searching roads (entries n) k → k < n → n < 5 → next (entries 5 .node k) l ≡ entries 5 .node n
-    → entries 5 .dist n ≡ entries 5 .dist k + 1 → entries 5 .parent n ≡ k → Searching roads (entries (n + 1)) k
-found n k l s stored small edge dist parent =
-    push-one s stored
-    (record {
-      old = record { more = omega arith; nodes = λ i m. refl; dists = λ i m. refl; parents = λ i m. refl };
-      one = refl;
-      node = refl;
-      dist = dist;
-      parent = parent;
-    })
-    (λ j m q. omega (arith, ap place q, node-place j (omega arith), node-place n small))
-    l edge refl
+found : (n u k : ℕ) (l : Bool) → Turn n u k → k < n → n < 5 → next (entries 5 .node k) l ≡ entries 5 .node n
+    → entries 5 .dist n ≡ entries 5 .dist k + 1 → entries 5 .parent n ≡ k → Turn (n + 1) u k
+found n u k l (s, t) stored small edge dist parent = (push s t stored pushed fresh l edge refl, push-next s t stored pushed fresh l edge refl)
+  where
+    pushed : Pushed (entries n) (entries (n + 1)) (entries 5 .node n) (entries n .dist k + 1) k
+    pushed =
+        record {
+          old = record { more = omega arith; nodes = λ i m. refl; dists = λ i m. refl; parents = λ i m. refl };
+          one = refl;
+          node = refl;
+          dist = dist;
+          parent = parent;
+        }
+
+    fresh : Fresh (entries n) (entries 5 .node n)
+    fresh j m q = omega (arith, ap place q, node-place j (omega arith), node-place n small)
 
 -- both edges of entry k lead to stored entries i and j
-done : (n k i j : ℕ) → Searching roads (entries n) k → k < n → i < n → j < n → next (entries 5 .node k) true ≡ entries 5 .node i
-    → next (entries 5 .node k) false ≡ entries 5 .node j → Searching roads (entries n) (k + 1)
-done n k i j s stored x y p q = advance s stored both
+done : (n u k i j : ℕ) → Turn n u k → k < u → i < n → j < n → next (entries 5 .node k) true ≡ entries 5 .node i
+    → next (entries 5 .node k) false ≡ entries 5 .node j → Searching roads (entries n) u (k + 1)
+done n u k i j (s, t) before x y p q = expand s before (λ l z w costs. held l z w)
   where
-    both : Expanded roads (entries n) k
-    both true z r = seen s stored true (omega arith) (record { at = i; below = x; is = sym p ∙ r })
-    both false z r = seen s stored false (omega arith) (record { at = j; below = y; is = sym q ∙ r })
+    held : (l : Bool) (z : Town) → next (entries n .node k) l ≡ z → Held (entries n) z
+    held true z w = record { at = i; below = x; is = sym p ∙ w }
+    held false z w = record { at = j; below = y; is = sym q ∙ w }
 
-end : Searching roads (entries 5) 5
+end : Searching roads (entries 5) 5 5
 end =
-    let s1 = search-start roads (entries 1) refl refl refl refl in
-    let s2 = found 1 0 true s1 (omega arith) (omega arith) refl refl refl in
-    let s3 = found 2 0 false s2 (omega arith) (omega arith) refl refl refl in
-    let a-done = done 3 0 1 2 s3 (omega arith) (omega arith) (omega arith) refl refl in
-    let s4 = found 3 1 true a-done (omega arith) (omega arith) refl refl refl in
-    let b-done = done 4 1 3 1 s4 (omega arith) (omega arith) (omega arith) refl refl in
-    let c-done = done 4 2 3 0 b-done (omega arith) (omega arith) (omega arith) refl refl in
-    let s5 = found 4 3 true c-done (omega arith) (omega arith) refl refl refl in
-    let d-done = done 5 3 4 1 s5 (omega arith) (omega arith) (omega arith) refl refl in
-    done 5 4 4 4 d-done (omega arith) (omega arith) (omega arith) refl refl
+    let s1 = settled 1 0 0 (omega arith) (search-start roads (entries 1) refl refl refl refl) in
+    let b-new = found 1 1 0 true (turn 1 0 (omega arith) s1) (omega arith) (omega arith) refl refl refl in
+    let c-new = found 2 1 0 false b-new (omega arith) (omega arith) refl refl refl in
+    let a-done = done 3 1 0 1 2 c-new (omega arith) (omega arith) (omega arith) refl refl in
+    let s3 = settled 3 2 1 (omega arith) (settled 3 1 1 (omega arith) a-done) in
+    let d-new = found 3 3 1 true (turn 3 1 (omega arith) s3) (omega arith) (omega arith) refl refl refl in
+    let b-done = done 4 3 1 3 1 d-new (omega arith) (omega arith) (omega arith) refl refl in
+    let s4 = settled 4 3 2 (omega arith) b-done in
+    let c-done = done 4 4 2 3 0 (turn 4 2 (omega arith) s4) (omega arith) (omega arith) (omega arith) refl refl in
+    let e-new = found 4 4 3 true (turn 4 3 (omega arith) c-done) (omega arith) (omega arith) refl refl refl in
+    let d-done = done 5 4 3 4 1 e-new (omega arith) (omega arith) (omega arith) refl refl in
+    let s5 = settled 5 4 4 (omega arith) d-done in
+    done 5 5 4 4 4 (turn 5 4 (omega arith) s5) (omega arith) (omega arith) (omega arith) refl refl
 
 closed : Closed roads (entries 5) 5
 closed = finish end (omega arith)

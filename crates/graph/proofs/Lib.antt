@@ -2,9 +2,11 @@ pub mod Counting
 pub mod Table
 pub mod Distances
 pub mod Levels
+pub mod LeastWay
 pub mod Complete
 pub mod Wanted
 pub mod Search
 pub mod Refusal
 pub mod Chain
 pub mod Examples
+pub mod Branches

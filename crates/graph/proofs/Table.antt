@@ -1,9 +1,9 @@
--- Tables of a breadth-first search that grow: what is stored stays stored, and what is expanded stays expanded.
+-- Tables of a search that grow: what is stored stays stored, and what is expanded stays expanded.
 use mathlib.Core.Path.{refl, _∙_, subst}
 use Prim.Native.Nat.{ℕ, _+_, _<_, _≤_}
 use native.Mathlib.Omega.{arith}
 use Rattle.graph.specs.inner.Graph.{Graph}
-use Rattle.graph.specs.inner.Table.{Table, Held, StoredNear, Expanded, Expanded, Closed, Extends}
+use Rattle.graph.specs.inner.Table.{Table, Held, StoredNear, Expanded, Closed, Extends, Grows, none, more}
 
 pub extends-same : {A : Type 0} (t : Table A) → Extends t t
 extends-same t = record { more = omega arith; nodes = λ i l. refl; dists = λ i l. refl; parents = λ i l. refl }
@@ -41,3 +41,17 @@ pub closed-kept : {A L : Type 0} (G : Graph A L) {t t′ : Table A} (k : ℕ) �
 closed-kept G {t} {t′} k g b c i l =
     let h : i < t .count = omega arith in
     expanded-since G g i h (λ m y e. stored-kept g (omega arith) (c i l m y e))
+
+-- ---- growth
+module _ {A : Type 0} {S : A → Type 0} {d p : ℕ} where
+  pub grows-extends : {t t′ : Table A} → Grows S d p t t′ → Extends t t′
+  grows-extends {t} none = extends-same t
+  grows-extends (more g s f q) = extends-then (grows-extends g) (q .old)
+
+  pub grows-then : {t t′ t″ : Table A} → Grows S d p t t′ → Grows S d p t′ t″ → Grows S d p t t″
+  grows-then g none = g
+  grows-then g (more h s f q) = more (grows-then g h) s f q
+
+pub grows-wider : {A : Type 0} {S S′ : A → Type 0} {d p : ℕ} → ((y : A) → S y → S′ y) → {t t′ : Table A} → Grows S d p t t′ → Grows S′ d p t t′
+grows-wider wider none = none
+grows-wider wider (more {y = y} g s f q) = more (grows-wider wider g) (wider y s) f q

@@ -1,10 +1,11 @@
--- Small flows by computation: `ball n` lists, each once, the configurations that fewer than n edges reach. An exit that the ball of n + 1 has
--- and that of n has not is at distance n + 1; a ball that grows no more is the census.
+-- Small flows by computation: `ball n` lists, each once, configurations that fewer than n exits reach. It lists all of them if each ball up to
+-- it holds where its steps lead that take no exit, which is tested. Then an exit that the ball of n + 1 has and that of n has not is at
+-- distance n + 1. A ball that grows no more is the census.
 use mathlib.Core.Path.{_≡_, refl, sym, ap, ap₂, subst}
 use mathlib.Core.Bool.{Bool-discrete, Bool, true, false, not, cond, _&&_, _||_}
 use mathlib.Core.List.{List, [], _∷_, _++_, map, cons≢nil, head-eq-of-cons-eq, tail-eq-of-cons-eq}
 use mathlib.Core.Logic.{_⊎_, inl, inr}
-use mathlib.Core.Option.{Option, some}
+use mathlib.Core.Option.{Option, none, some}
 use Prim.Native.Nat.{ℕ, zero, suc, _+_, _-_, _*_, _<_, _≤_}
 use native.Mathlib.Omega.{arith}
 use lib.IntN.{ℤ, pos, sucℤ, _+ℤ_, negℤ}
@@ -15,16 +16,18 @@ use Rattle.model.specs.Language.{Instruction, stop, Flow, Field, tape, o
 use Rattle.model.specs.Machine.{Exit, p-exit, step, exitOf}
 use Rattle.model.specs.Pattern.{Mark, inside, above, below, equal}
 use Rattle.graph.specs.Lists.{In, Once, Census}
+use Rattle.graph.specs.inner.Graph.{Path, here, onward, ExitPath}
 use Rattle.graph.proofs.Counting.{in-map, map-in}
 use Rattle.model.specs.Configuration.{Configuration, configuration, Reachable}
-use Rattle.model.specs.Distance.{Distance, NoDistance}
+use Rattle.model.specs.Distance.{weight, Distance, NoDistance}
 use Rattle.model.proofs.Integers.{zarith, suc-is, sub-pos, and-in, and-out, or-in, or-left, or-right, true-in, false-in}
 use Rattle.model.proofs.Lists.{all-getD, in-left, in-right, in-either}
 use Rattle.model.proofs.Side.{near-in, near-out}
 use Rattle.model.proofs.Ranks.{equal-in, equal-out}
-use Rattle.model.proofs.Graph.{trial, fedWith, Edge, still, fed, origin, Reach, first, further}
+use Rattle.model.proofs.Runs.{weight-small}
+use Rattle.model.proofs.Graph.{trial, fedWith, Edge, still, fed, origin, configurations}
 use Rattle.model.proofs.Exits.{takesExit, exit-edge, edge-exit}
-use Rattle.model.proofs.Theorems.{Leads, distance-of-paths, none-of-paths, reachable-reach, reach-reachable}
+use Rattle.model.proofs.Theorems.{Taking, distance-of-exit, none-of-exit, reachable-reached, reached-reachable}
 use Rattle.model.proofs.Constants.{legal-basic}
 use Rattle.model.specs.inner.Lists.{All}
 use Rattle.model.specs.inner.Integers.{up, dn}
@@ -186,6 +189,11 @@ has-span (suc n) x y (inr h) = let (p, q) = has-span n (sucℤ x) y h in (omega 
 abbrev pub width : (lo hi : ℤ) → ℕ → ℕ
 width lo hi w = suc ((up hi + dn lo) - (up lo + dn hi) + 2 * w)
 
+-- c in front of a list, where no exit is taken
+abbrev pub ifNone : Option Exit → Configuration → List Configuration → List Configuration
+ifNone none c l = c ∷ l
+ifNone (some e) c l = l
+
 module _ (lo hi : ℤ) (flow : Flow) where
   abbrev pub trials : ℕ → List ℤ
   trials w = span (lo +ℤ negℤ (pos w)) (width lo hi w)
@@ -210,13 +218,28 @@ module _ (lo hi : ℤ) (flow : Flow) where
   abbrev pub grow : List Configuration → List Configuration
   grow l = addAll (fringe l) l
 
+  -- where the steps of a list lead that take no exit
+  abbrev pub quietTargets : List Configuration → List Configuration
+  quietTargets [] = []
+  quietTargets (c ∷ l) = ifNone (exitOf flow (trial lo hi flow c)) (configuration lo hi (step flow (trial lo hi flow c))) (quietTargets l)
+
+  -- followed so many times
+  abbrev pub quieted : ℕ → List Configuration → List Configuration
+  quieted zero l = l
+  quieted (suc k) l = quieted k (addAll (quietTargets l) l)
+
   abbrev pub ball : ℕ → List Configuration
   ball zero = []
-  ball (suc n) = grow (ball n)
+  ball (suc n) = quieted (length (flow .instructions)) (grow (ball n))
+
+  -- the balls up to that of n hold where their steps lead that take no exit
+  abbrev pub settled : ℕ → Bool
+  settled zero = true
+  settled (suc n) = eqb (length (addAll (quietTargets (ball (suc n))) (ball (suc n)))) (length (ball (suc n))) && settled n
 
   -- the ball of n grows no more
   abbrev pub whole : ℕ → Bool
-  whole n = eqb (length (ball (suc n))) (length (ball n))
+  whole n = eqb (length (grow (ball n))) (length (ball n))
 
   -- the exit e of instruction i, at a configuration, and at one of a list
   abbrev pub exitAt : ℕ → Exit → Configuration → Bool
@@ -272,73 +295,150 @@ module _ (lo hi : ℤ) (flow : Flow) where
         go (goes n) i k = absurd k
         go stops i k = absurd k
 
-    ball-reach : (n : ℕ) (x : Configuration) → In x (ball n) → (m : ℕ) × (m < n) × Reach lo hi flow m x
-    ball-reach (suc n) x h = go (add-in (fringe (ball n)) (ball n) x h) (ball-reach n)
+    -- what fewer than n exits reach
+    abbrev Near : ℕ → Configuration → Type 0
+    Near n x = (m : ℕ) × (m < n) × Path (configurations lo hi flow) m x
+
+    quiet-near : (n : ℕ) (k : List Configuration) → ((x : Configuration) → In x k → Near n x) → (x : Configuration) → In x (quietTargets k) → Near n x
+    quiet-near n (c ∷ k) near x h = go (exitOf flow (trial lo hi flow c)) refl h (quiet-near n k (λ y i. near y (inr i)) x)
       where
-        go : In x (fringe (ball n)) ⊎ In x (ball n) → ((y : Configuration) → In y (ball n) → (m : ℕ) × (m < n) × Reach lo hi flow m y)
-            → (m : ℕ) × (m < suc n) × Reach lo hi flow m x
-        go (inl (inl e)) f = (0, omega arith, subst (Reach lo hi flow 0) (sym e) first)
-        go (inl (inr p)) f =
-            let (c, q, t) = targets-of (ball n) x p in
+        next : Configuration
+        next = configuration lo hi (step flow (trial lo hi flow c))
+
+        go : (o : Option Exit) → exitOf flow (trial lo hi flow c) ≡ o → In x (ifNone o next (quietTargets k)) → (In x (quietTargets k) → Near n x) → Near n x
+        go none e (inl q) f =
+            let (m, b, p) = near c (inl refl) in
+            (m, b, onward {k = m} p (subst (Edge lo hi flow c (exitOf flow (trial lo hi flow c))) (sym q) still) (omega (arith, ap weight e)))
+        go none e (inr i) f = f i
+        go (some z) e i f = f i
+
+    quieted-near : (n j : ℕ) (k : List Configuration) → ((x : Configuration) → In x k → Near n x) → (x : Configuration) → In x (quieted j k) → Near n x
+    quieted-near n zero k near x h = near x h
+    quieted-near n (suc j) k near x h = quieted-near n j (addAll (quietTargets k) k) (λ y i. either y (add-in (quietTargets k) k y i)) x h
+      where
+        either : (y : Configuration) → In y (quietTargets k) ⊎ In y k → Near n y
+        either y (inl a) = quiet-near n k near y a
+        either y (inr a) = near y a
+
+    ball-near : (n : ℕ) (x : Configuration) → In x (ball n) → Near n x
+    ball-near (suc n) x h =
+        quieted-near (suc n) (length (flow .instructions)) (grow (ball n)) (λ y i. go y (add-in (fringe (ball n)) (ball n) y i) (ball-near n)) x h
+      where
+        go : (y : Configuration) → In y (fringe (ball n)) ⊎ In y (ball n) → ((z : Configuration) → In z (ball n) → Near n z) → Near (suc n) y
+        go y (inl (inl e)) f = (0, omega arith, subst (Path (configurations lo hi flow) 0) (sym e) here)
+        go y (inl (inr p)) f =
+            let (c, q, t) = targets-of (ball n) y p in
             let (m, b, r) = f c q in
-            let (o, y) = target-edge c x t in
-            (suc m, omega arith, further r y)
-        go (inr p) f = let (m, b, r) = f x p in (m, omega arith, r)
+            let (o, k) = target-edge c y t in
+            (m + weight o, omega (arith, weight-small o), onward r k refl)
+        go y (inr p) f = let (m, b, r) = f y p in (m, omega arith, r)
 
-    reach-ball : {m : ℕ} {x : Configuration} (n : ℕ) → Reach lo hi flow m x → m < n → In x (ball n)
-    reach-ball zero r h = absurd (omega arith)
-    reach-ball (suc n) first h = add-keeps (fringe (ball n)) (ball n) (origin lo hi flow) (inl (inl refl))
-    reach-ball (suc n) (further {c = c} {c′ = x} r y) h =
-        add-keeps (fringe (ball n)) (ball n) x (inl (inr (among-targets (ball n) c x (reach-ball n r (omega arith)) (edge-target y))))
+    -- a settled ball holds all of them
+    quieted-keeps : (j : ℕ) (k : List Configuration) (x : Configuration) → In x k → In x (quieted j k)
+    quieted-keeps zero k x h = h
+    quieted-keeps (suc j) k x h = quieted-keeps j (addAll (quietTargets k) k) x (add-keeps (quietTargets k) k x (inr h))
 
-    whole-ball : {m : ℕ} {x : Configuration} (n : ℕ) → T (whole n) → Reach lo hi flow m x → In x (ball n)
-    whole-ball n e first = add-nothing (fringe (ball n)) (ball n) (eqb→eq (length (ball (suc n))) (length (ball n)) e) (origin lo hi flow) (inl refl)
-    whole-ball n e (further {c = c} {c′ = x} r y) =
-        add-nothing (fringe (ball n)) (ball n) (eqb→eq (length (ball (suc n))) (length (ball n)) e) x
+    grow-ball : (n : ℕ) (x : Configuration) → In x (grow (ball n)) → In x (ball (suc n))
+    grow-ball n = quieted-keeps (length (flow .instructions)) (grow (ball n))
+
+    quiet-target : (k : List Configuration) {o : Option Exit} {c x : Configuration} → Edge lo hi flow c o x → weight o ≡ 0 → In c k → In x (quietTargets k)
+    quiet-target (d ∷ k) {o} {c} {x} edge free (inl e) = first edge free e
+      where
+        head : (p : Option Exit) (y : Configuration) → weight p ≡ 0 → In y (ifNone p y (quietTargets k))
+        head none y z = inl refl
+        head (some z) y h = absurd (omega arith)
+
+        first : {o : Option Exit} {x : Configuration} → Edge lo hi flow c o x → weight o ≡ 0 → c ≡ d → In x (quietTargets (d ∷ k))
+        first still z q =
+            subst (λ (b : Configuration). In (configuration lo hi (step flow (trial lo hi flow c)))
+            (ifNone (exitOf flow (trial lo hi flow b)) (configuration lo hi (step flow (trial lo hi flow b))) (quietTargets k))) q
+            (head (exitOf flow (trial lo hi flow c)) (configuration lo hi (step flow (trial lo hi flow c))) z)
+        first (fed a v p m y i open-still near) z q = absurd (omega arith)
+    quiet-target (d ∷ k) {o} {c} {x} edge free (inr h) =
+        later (exitOf flow (trial lo hi flow d)) (configuration lo hi (step flow (trial lo hi flow d))) (quiet-target k edge free h)
+      where
+        later : (p : Option Exit) (y : Configuration) → In x (quietTargets k) → In x (ifNone p y (quietTargets k))
+        later none y i = inr i
+        later (some z) y i = i
+
+    near-ball : (n : ℕ) → T (settled n) → {m : ℕ} {x : Configuration} → Path (configurations lo hi flow) m x → m < n → In x (ball n)
+    near-ball zero s r h = absurd (omega arith)
+    near-ball (suc n) s here h = grow-ball n (origin lo hi flow) (add-keeps (fringe (ball n)) (ball n) (origin lo hi flow) (inl (inl refl)))
+    near-ball (suc n) s (onward {n = j} {x = c} {y = x} {l = o} r edge q) h =
+        go o refl (λ b. near-ball n (rest .1) r b) (λ b. near-ball (suc n) s r b)
+      where
+        rest : T (eqb (length (addAll (quietTargets (ball (suc n))) (ball (suc n)))) (length (ball (suc n)))) × T (settled n)
+        rest = and-in (eqb (length (addAll (quietTargets (ball (suc n))) (ball (suc n)))) (length (ball (suc n)))) (settled n) s
+
+        go : (p : Option Exit) → o ≡ p → (j < n → In c (ball n)) → (j < suc n → In c (ball (suc n))) → In x (ball (suc n))
+        go none e nearer same =
+            add-nothing (quietTargets (ball (suc n))) (ball (suc n))
+            (eqb→eq (length (addAll (quietTargets (ball (suc n))) (ball (suc n)))) (length (ball (suc n))) (rest .0)) x
+            (quiet-target (ball (suc n)) edge (ap weight e) (same (omega arith)))
+        go (some z) e nearer same =
+            let one : weight o ≡ 1 = ap weight e in
+            grow-ball n x (add-keeps (fringe (ball n)) (ball n) x
+            (inl (inr (among-targets (ball n) c x (nearer (omega arith)) (edge-target edge)))))
+
+    whole-ball : {m : ℕ} {x : Configuration} (n : ℕ) → T (whole n) → Path (configurations lo hi flow) m x → In x (ball n)
+    whole-ball n e here = add-nothing (fringe (ball n)) (ball n) (eqb→eq (length (grow (ball n))) (length (ball n)) e) (origin lo hi flow) (inl refl)
+    whole-ball n e (onward {x = c} {y = x} r y q) =
+        add-nothing (fringe (ball n)) (ball n) (eqb→eq (length (grow (ball n))) (length (ball n)) e) x
         (inr (among-targets (ball n) c x (whole-ball n e r) (edge-target y)))
+
+    quieted-once : (j : ℕ) (k : List Configuration) → Once k → Once (quieted j k)
+    quieted-once zero k h = h
+    quieted-once (suc j) k h = quieted-once j (addAll (quietTargets k) k) (add-once (quietTargets k) k h)
 
     ball-once : (n : ℕ) → Once (ball n)
     ball-once zero = tt
-    ball-once (suc n) = add-once (fringe (ball n)) (ball n) (ball-once n)
+    ball-once (suc n) = quieted-once (length (flow .instructions)) (grow (ball n)) (add-once (fringe (ball n)) (ball n) (ball-once n))
 
     -- ---- the census, distances and none
     pub computed-census : (n : ℕ) → T (whole n) → Census (Reachable lo hi flow) (ball n)
     computed-census n e = record {
       once = ball-once n;
-      all = λ c r. whole-ball n e (reachable-reach l c r .1);
-      only = λ c h. let (m, b, r) = ball-reach n c h in reach-reachable l m c r;
+      all = λ c r. whole-ball n e (reachable-reached l c r .1);
+      only = λ c h. let (m, b, r) = ball-near n c h in reached-reachable l c (m, r);
     }
 
-    found-leads : (i : ℕ) (e : Exit) (n : ℕ) → T (found i e (ball n)) → (d : ℕ) × (d ≤ n) × Leads lo hi flow i e d
-    found-leads i e n h =
+    found-exit : (i : ℕ) (e : Exit) (n : ℕ) → T (found i e (ball n)) → (d : ℕ) × (d ≤ n) × ExitPath (configurations lo hi flow) (Taking i e) d
+    found-exit i e n h =
         let (c, k, t) = found-in i e (ball n) h in
         let (p, q) = and-in (eqb (c .next) i) (takesExit lo hi flow c e) t in
-        let (m, b, r) = ball-reach n c k in
-        let (x, y) = exit-edge l c e q in
-        (suc m, omega arith, record { before = m; last = refl; from = c; to = x; reach = r; here = eqb→eq (c .next) i p; edge = y })
+        let (m, b, r) = ball-near n c k in
+        let (x, y) = exit-edge l c e q in (
+          m + 1,
+          omega arith,
+          record { from = c; label = some e; target = x; before = m; path = r; edge = y; wanted = (eqb→eq (c .next) i p, refl); total = refl },
+        )
 
-    leads-found : (i : ℕ) (e : Exit) (k : List Configuration) (d : ℕ) (p : Leads lo hi flow i e d) → In (p .from) k → T (found i e k)
-    leads-found i e k d p h = in-found i e k (p .from) h
-        (and-out (eqb (p .from .next) i) (takesExit lo hi flow (p .from) e) (eqb-out (p .from .next) i (p .here)) (edge-exit l (p .from) (p .edge)))
+    exit-found : (i : ℕ) (e : Exit) (k : List Configuration) (d : ℕ) (p : ExitPath (configurations lo hi flow) (Taking i e) d) → In (p .from) k
+        → T (found i e k)
+    exit-found i e k d p h =
+        let edge = subst (λ (o : Option Exit). Edge lo hi flow (p .from) o (p .target)) (p .wanted .1) (p .edge) in
+        in-found i e k (p .from) h
+        (and-out (eqb (p .from .next) i) (takesExit lo hi flow (p .from) e) (eqb-out (p .from .next) i (p .wanted .0)) (edge-exit l (p .from) edge))
 
-    pub computed-distance : (i : ℕ) (e : Exit) (n : ℕ) → T (found i e (ball (suc n))) → T (not (found i e (ball n))) → Distance flow i e (suc n)
-    computed-distance i e n h never =
-        let (d, b, p) = found-leads i e (suc n) h in
+    pub computed-distance : (i : ℕ) (e : Exit) (n : ℕ) → T (settled n) → T (found i e (ball (suc n))) → T (not (found i e (ball n)))
+        → Distance flow i e (suc n)
+    computed-distance i e n s h never =
+        let (d, b, p) = found-exit i e (suc n) h in
         let exact : d ≡ suc n = omega (arith, far d p) in
-        distance-of-paths l i e (suc n) (subst (Leads lo hi flow i e) exact p) (λ k q. omega (arith, far k q))
+        distance-of-exit l i e (suc n) (record { exit = subst (ExitPath (configurations lo hi flow) (Taking i e)) exact p; least = λ k q. omega (arith, far k q) })
       where
-        go : (k : ℕ) → Leads lo hi flow i e k → (b : Bool) → ltb n k ≡ b → n < k
+        go : (k : ℕ) → ExitPath (configurations lo hi flow) (Taking i e) k → (b : Bool) → ltb n k ≡ b → n < k
         go k q true t = ltb→lt n k (true-in (ltb n k) t)
         go k q false t =
-            let early : q .before < n = omega (arith, q .last, nltb→le n k (false-in (ltb n k) t)) in
-            absurd (T-not (found i e (ball n)) never (leads-found i e (ball n) k q (reach-ball n (q .reach) early)))
+            let early : q .before < n = omega (arith, q .total, ap weight (q .wanted .1), nltb→le n k (false-in (ltb n k) t)) in
+            absurd (T-not (found i e (ball n)) never (exit-found i e (ball n) k q (near-ball n s (q .path) early)))
 
-        far : (k : ℕ) → Leads lo hi flow i e k → n < k
+        far : (k : ℕ) → ExitPath (configurations lo hi flow) (Taking i e) k → n < k
         far k q = go k q (ltb n k) refl
 
     pub computed-none : (i : ℕ) (e : Exit) (n : ℕ) → T (whole n) → T (not (found i e (ball n))) → NoDistance flow i e
-    computed-none i e n w never = none-of-paths l i e
-        (λ k p. T-not (found i e (ball n)) never (leads-found i e (ball n) k p (whole-ball n w (p .reach))))
+    computed-none i e n w never = none-of-exit l i e
+        (λ k p. T-not (found i e (ball n)) never (exit-found i e (ball n) k p (whole-ball n w (p .path))))
 
 -- ---- a flow's numbers, tested
 abbrev pub numbered : Flow → Field → Bool

@@ -1,15 +1,19 @@
--- A map of the whole numbers that keeps their order, and every number from lo to hi, commutes with runs: the run on mapped tapes is the mapped run.
+-- A map of the whole numbers that keeps their order, and every number from lo to hi, commutes with runs: the run on mapped tapes is the mapped run,
+-- and takes the same exits.
 -- No arithmetic is in it: comparisons compare images, constants are their own images, reads and copies move values.
 use mathlib.Core.Path.{_≡_, refl, sym, ap, _∙_}
+use mathlib.Core.Bool.{Bool}
 use mathlib.Core.List.{List, [], _∷_, map}
+use mathlib.Core.Option.{some}
 use Prim.Native.Nat.{ℕ, zero, suc}
 use lib.IntN.{ℤ, pos}
 use lib.Signed.{ltZ}
 use Rattle.model.specs.Language.{Flow}
-use Rattle.model.specs.Machine.{State, start, run}
+use Rattle.model.specs.Machine.{State, exitIf, hasRecord, exitOf, start, run}
+use Rattle.model.specs.Distance.{exitsTaken}
 use Rattle.model.proofs.Lists.{getD-map, set-map, map-replicate}
-use Rattle.model.proofs.View.{onTape, taken, stepView, Known, SoundTerm, SoundView, sound, known}
-use Rattle.model.proofs.Runs.{run-end}
+use Rattle.model.proofs.View.{onTape, taken, stepView, exitView, exit-view, Known, SoundTerm, SoundView, sound, known}
+use Rattle.model.proofs.Runs.{run-end, exits-end}
 use Rattle.model.specs.inner.Integers.{Inside}
 use Rattle.model.specs.inner.View.{Term, held, literal, View, reads, sets, tests, goes, stops, viewAt, term, LegalFlow}
 
@@ -47,3 +51,24 @@ module _ {lo hi : ℤ} {flow : Flow} (l : LegalFlow lo hi flow) (f : ℤ → ℤ
       let s = run flow tapes n in
       run-end flow (map (map f) tapes) n ∙ ap (λ (t : State). stepView (viewAt flow (t .next)) t) (run-map tapes n)
       ∙ step-map (viewAt flow (s .next)) (sound l (s .next)) s ∙ ap (mapState f) (sym (run-end flow tapes n))
+
+  -- ---- the exits taken
+  record-map : (l : List ℤ) → hasRecord (map f l) ≡ hasRecord l
+  record-map [] = refl
+  record-map (x ∷ l) = refl
+
+  exit-map : (w : View) → SoundView lo hi flow w → (s : State) → exitView w (mapState f s) ≡ exitView w s
+  exit-map (reads a v p m) h s = ap (λ (b : Bool). some (exitIf b)) (ap hasRecord (getD-map (map f) (s .left) a [] [] refl) ∙ record-map (onTape s a))
+  exit-map (sets t v n) h s = refl
+  exit-map (tests x y p m) h s = rw (sound-map (s .variables) x (h .0), sound-map (s .variables) y (h .1), k .keeps)
+  exit-map (goes n) h s = refl
+  exit-map stops h s = refl
+
+  pub exits-map : (tapes : List (List ℤ)) (n : ℕ) → exitsTaken flow (map (map f) tapes) n ≡ exitsTaken flow tapes n
+  exits-map tapes zero = refl
+  exits-map tapes (suc n) =
+      let s = run flow tapes n in
+      let same : exitOf flow (run flow (map (map f) tapes) n) ≡ exitOf flow s
+      = ap (exitOf flow) (run-map tapes n) ∙ exit-view flow (mapState f s) ∙ exit-map (viewAt flow (s .next)) (sound l (s .next)) s
+      ∙ sym (exit-view flow s) in
+      exits-end flow (map (map f) tapes) tapes n (exits-map tapes n) same

@@ -3,7 +3,7 @@
 use mathlib.Core.Path.{_≡_, refl, sym, ap, ap₂, _∙_, subst}
 use mathlib.Core.Bool.{Bool, false}
 use mathlib.Core.List.{List, [], _∷_, _++_, map}
-use mathlib.Core.Option.{some}
+use mathlib.Core.Option.{Option, some}
 use Prim.Native.Nat.{ℕ, zero, suc, _+_, _<_}
 use native.Mathlib.Omega.{arith}
 use lib.IntN.{ℤ, pos}
@@ -11,15 +11,15 @@ use lib.ListN.{length, getD, set, replicate, length-set, length-map, length-repl
 use lib.Seq.{getD-set-same, set-set}
 use Rattle.model.specs.Language.{Flow}
 use Rattle.model.specs.Machine.{State, Exit, p-exit, exitIf, hasRecord, step, exitOf, start, run}
-use Rattle.model.specs.Distance.{Takes, Distance}
+use Rattle.model.specs.Distance.{weight, exitsTaken, StepTakes, Distance}
 use Rattle.model.specs.Sample.{Near, Sample}
 use Rattle.model.proofs.Lists.{all-in, all-getD, all-set, all-snoc, all-map, all-replicate, map-replicate, getD-like, set-like}
 use Rattle.model.proofs.View.{onTape}
 use Rattle.model.proofs.View.{stepView, exitView, step-view, exit-view, SoundView, sound, known}
-use Rattle.model.proofs.Faithful.{Faithful, mapState, run-map}
+use Rattle.model.proofs.Faithful.{Faithful, mapState, run-map, exits-map}
 use Rattle.model.proofs.Side.{near-wider, inside-near}
 use Rattle.model.proofs.Room.{near-term}
-use Rattle.model.proofs.Runs.{steps-end, append, more, run-more}
+use Rattle.model.proofs.Runs.{steps-end, append, more, run-more, exits-more}
 use Rattle.model.specs.inner.Lists.{All}
 use Rattle.model.specs.inner.View.{View, reads, sets, tests, goes, stops, viewAt, term, LegalFlow}
 use Rattle.model.specs.inner.Runs.{resting, records, RunStands}
@@ -45,13 +45,14 @@ step-left flow (goes n) k v e = refl
 step-left flow stops k v e = refl
 
 module _ {lo hi : ℤ} {flow : Flow} (l : LegalFlow lo hi flow) where
-  pub stands-start : RunStands lo hi flow 0 0 (replicate (flow .tapes) []) 1 (replicate (flow .variables) (pos 0)) (replicate (flow .tapes) false)
+  pub stands-start : RunStands lo hi flow 0 0 0 (replicate (flow .tapes) []) 1 (replicate (flow .variables) (pos 0)) (replicate (flow .tapes) false)
   stands-start = record {
     count = length-replicate {A = List ℤ} (flow .tapes) [];
     is = refl;
     near = all-replicate (All (Near lo hi 0)) (flow .tapes) [] tt;
     values-near = all-replicate (Near lo hi 0) (flow .variables) (pos 0) (inside-near 0 (l .zero));
     total = records-none (flow .tapes);
+    exits = refl;
     few = omega arith;
   }
 
@@ -63,12 +64,13 @@ module _ {lo hi : ℤ} {flow : Flow} (l : LegalFlow lo hi flow) where
   near-step r (goes m) h k v e n = n
   near-step r stops h k v e n = n
 
-  module _ {n r : ℕ} {tapes : List (List ℤ)} {k : ℕ} {v : List ℤ} {e : List Bool} (s : RunStands lo hi flow n r tapes k v e) where
+  module _ {n d r : ℕ} {tapes : List (List ℤ)} {k : ℕ} {v : List ℤ} {e : List Bool} (s : RunStands lo hi flow n d r tapes k v e) where
     -- a step that reads no record
     abbrev pub restedAfter : State
     restedAfter = step flow (resting flow k v e)
 
-    pub stands-silent : RunStands lo hi flow (suc n) r tapes (restedAfter .next) (restedAfter .variables) (restedAfter .ended)
+    pub stands-silent : RunStands lo hi flow (suc n) (d + weight (exitOf flow (resting flow k v e))) r tapes
+        (restedAfter .next) (restedAfter .variables) (restedAfter .ended)
     stands-silent = record {
       count = s .count;
       is = steps-end flow n (start flow tapes) ∙ ap (step flow) (s .is)
@@ -77,13 +79,14 @@ module _ {lo hi : ℤ} {flow : Flow} (l : LegalFlow lo hi flow) where
       values-near = subst (λ (t : State). All (Near lo hi r) (t .variables)) (sym (step-view flow (resting flow k v e)))
           (near-step r (viewAt flow k) (sound l k) k v e (s .values-near));
       total = s .total;
+      exits = ap₂ (λ (j : ℕ) (o : Option Exit). j + weight o) (s .exits) (ap (exitOf flow) (s .is));
       few = omega (arith, s .few);
     }
       where
         emptied : restedAfter .left ≡ replicate (flow .tapes) []
         emptied = ap (λ (t : State). t .left) (step-view flow (resting flow k v e)) ∙ step-left flow (viewAt flow k) k v e
 
-    pub takes-silent : (x : Exit) → exitOf flow (resting flow k v e) ≡ some x → Takes flow tapes k x (suc n)
+    pub takes-silent : (x : Exit) → exitOf flow (resting flow k v e) ≡ some x → StepTakes flow tapes k x (suc n)
     takes-silent x h = record { before = n; last = refl; here = ap (λ (t : State). t .next) (s .is); exit = ap (exitOf flow) (s .is) ∙ h }
 
     -- a step that reads a record
@@ -104,8 +107,11 @@ module _ {lo hi : ℤ} {flow : Flow} (l : LegalFlow lo hi flow) where
       mapped = run-map l f faithful tapes n ∙ ap (mapState f) (s .is)
           ∙ ap (λ (q : List (List ℤ)). record { next = k; variables = map f v; left = q; ended = e }) (map-replicate (map f) (flow .tapes) [] [] refl)
 
+      open-yet : getD (run flow base n .ended) a false ≡ false
+      open-yet = ap (λ (t : State). getD (t .ended) a false) mapped ∙ o
+
       fed-run : run flow (append base a x) n ≡ offer
-      fed-run = run-more flow base base-count n a x lane (ap (λ (t : State). getD (t .ended) a false) mapped ∙ o) ∙ ap (more a x) mapped
+      fed-run = run-more flow base base-count n a x lane open-yet ∙ ap (more a x) mapped
 
       abbrev empty : List ℤ
       empty = getD (replicate (flow .tapes) []) a []
@@ -119,17 +125,23 @@ module _ {lo hi : ℤ} {flow : Flow} (l : LegalFlow lo hi flow) where
           ∙ rw offered (ap (λ (q : List (List ℤ)). record { next = p; variables = set (map f v) u x; left = q; ended = e })
           (set-set (replicate (flow .tapes) []) a (empty ++ (x ∷ [])) [] ∙ set-like (flow .tapes) a []))
 
-      pub takes-fed : Takes flow (append (map (map f) tapes) a x) k p-exit (suc n)
+      fed-exit : exitOf flow (run flow (append base a x) n) ≡ some p-exit
+      fed-exit = ap (exitOf flow) fed-run ∙ exit-view flow offer ∙ ap (λ (w : View). exitView w offer) i
+          ∙ ap (λ (t : List ℤ). some (exitIf (hasRecord t))) offered
+
+      fed-exits : exitsTaken flow (append base a x) n ≡ d
+      fed-exits = exits-more flow a x lane base base-count n open-yet ∙ exits-map l f faithful tapes n ∙ s .exits
+
+      pub takes-fed : StepTakes flow (append (map (map f) tapes) a x) k p-exit (suc n)
       takes-fed = record {
         before = n;
         last = refl;
         here = ap (λ (t : State). t .next) fed-run;
-        exit = ap (exitOf flow) fed-run ∙ exit-view flow offer ∙ ap (λ (w : View). exitView w offer) i
-            ∙ ap (λ (t : List ℤ). some (exitIf (hasRecord t))) offered;
+        exit = fed-exit;
       }
 
       pub stands-fed : ((q : ℕ) (y : ℤ) → Near lo hi q y → Near lo hi (suc q) (f y)) → Near lo hi (suc r) x
-          → RunStands lo hi flow (suc n) (suc r) (append (map (map f) tapes) a x) p (set (map f v) u x) e
+          → RunStands lo hi flow (suc n) (d + 1) (suc r) (append (map (map f) tapes) a x) p (set (map f v) u x) e
       stands-fed fnear xnear = record {
         count = length-set base a (getD base a [] ++ (x ∷ [])) ∙ base-count;
         is = steps-end flow n (start flow (append base a x)) ∙ ap (step flow) fed-run ∙ fed-step;
@@ -137,6 +149,7 @@ module _ {lo hi : ℤ} {flow : Flow} (l : LegalFlow lo hi flow) where
             (all-snoc (Near lo hi (suc r)) (getD base a []) x (all-getD (All (Near lo hi (suc r))) base a [] base-near tt) xnear);
         values-near = all-set (Near lo hi (suc r)) (map f v) u x (near-map v (s .values-near)) xnear;
         total = records-append base a x (omega (arith, base-count, lane)) ∙ ap suc (records-map f tapes ∙ s .total);
+        exits = ap₂ (λ (j : ℕ) (o : Option Exit). j + weight o) fed-exits (fed-exit);
         few = omega (arith, s .few);
       }
         where
@@ -147,11 +160,11 @@ module _ {lo hi : ℤ} {flow : Flow} (l : LegalFlow lo hi flow) where
           base-near = all-map (All (Near lo hi r)) (All (Near lo hi (suc r))) (map f) near-map tapes (s .near)
 
     -- tapes that take an exit at its distance, and are read to their ends by then, are a sample for it
-    pub stands-sample : (i : ℕ) (x : Exit) → Distance flow i x n → Takes flow tapes i x n → Sample lo hi flow i x n tapes
-    stands-sample i x d t = record {
+    pub stands-sample : (i : ℕ) (x : Exit) → Distance flow i x d → StepTakes flow tapes i x n → Sample lo hi flow i x d tapes
+    stands-sample i x far t = record {
       count = s .count;
-      distance = d;
-      takes = t;
+      distance = far;
+      takes = record { step = n; taking = t; exits = s .exits };
       used = ap (λ (q : State). q .left) (s .is);
-      near = λ tape y h j. near-wider n (s .few) (all-in (Near lo hi r) tape y (all-in (All (Near lo hi r)) tapes tape (s .near) h) j);
+      near = λ tape y h j. near-wider d (s .few) (all-in (Near lo hi r) tape y (all-in (All (Near lo hi r)) tapes tape (s .near) h) j);
     }

@@ -1,5 +1,6 @@
 -- The graph of configurations. An edge is a step of L0 on a trial state, the spread of the configuration's pattern: with no record left, or with one
--- trial record on the tape that is read. Every step of a run is an edge, since two states with one configuration make like steps.
+-- trial record on the tape that is read. Every step of a run is an edge, since two states with one configuration make like steps; an edge costs what
+-- the step weighs. So a run is a path, and costs the exits that it takes.
 use mathlib.Core.Path.{_≡_, refl, sym, ap, _∙_, subst}
 use mathlib.Core.Bool.{Bool, true, false, cond}
 use mathlib.Core.List.{List, [], _∷_}
@@ -9,11 +10,13 @@ use native.Mathlib.Omega.{arith}
 use lib.IntN.{ℤ}
 use lib.ListN.{length, getD, set, replicate, length-replicate}
 use lib.Seq.{getD-set-same}
+use Rattle.graph.specs.inner.Graph.{Graph, Path, here, onward}
 use Rattle.model.specs.Language.{Flow}
 use Rattle.model.specs.Machine.{State, Exit, p-exit, exitIf, hasRecord, step, exitOf, start, run}
 use Rattle.model.specs.Pattern.{pattern}
 use Rattle.model.specs.Configuration.{Configuration, configuration}
 use Rattle.model.specs.Sample.{Near}
+use Rattle.model.specs.Distance.{weight, exitsTaken}
 use Rattle.model.proofs.Lists.{getD-like}
 use Rattle.model.proofs.View.{onTape}
 use Rattle.model.proofs.View.{stepView, exitView, step-view, exit-view, SoundView, sound, known}
@@ -58,10 +61,8 @@ fed-step lo hi flow c a v p m y i h = (
 abbrev pub origin : (lo hi : ℤ) → Flow → Configuration
 origin lo hi flow = configuration lo hi (start flow (replicate (flow .tapes) []))
 
--- c is reached by n edges
-pub data Reach (lo hi : ℤ) (flow : Flow) : ℕ → Configuration → Type 0 where
-  first : Reach lo hi flow zero (origin lo hi flow)
-  further : {n : ℕ} {c c′ : Configuration} {e : Option Exit} → Reach lo hi flow n c → Edge lo hi flow c e c′ → Reach lo hi flow (suc n) c′
+abbrev pub configurations : (lo hi : ℤ) → Flow → Graph Configuration (Option Exit)
+configurations lo hi flow = record { start = origin lo hi flow; Edge = Edge lo hi flow; cost = weight }
 
 -- ---- states that the graph does not tell apart
 pub record Like (lo hi : ℤ) (s s′ : State) : Type 0 where
@@ -156,7 +157,8 @@ module _ {lo hi : ℤ} {flow : Flow} (l : LegalFlow lo hi flow) where
       go (goes n) i = silent-edge s (goes n) i tt
       go stops i = silent-edge s stops i tt
 
-  pub reach-run : (tapes : List (List ℤ)) → length tapes ≡ flow .tapes → (n : ℕ) → Reach lo hi flow n (configuration lo hi (run flow tapes n))
-  reach-run tapes h zero = first
-  reach-run tapes h (suc n) =
-      rw (steps-end flow n (start flow tapes)) (further (reach-run tapes h n) (simulate (run flow tapes n) (fair-run flow tapes h n)))
+  pub run-path : (tapes : List (List ℤ)) → length tapes ≡ flow .tapes → (n : ℕ)
+      → Path (configurations lo hi flow) (exitsTaken flow tapes n) (configuration lo hi (run flow tapes n))
+  run-path tapes h zero = here
+  run-path tapes h (suc n) =
+      rw (steps-end flow n (start flow tapes)) (onward (run-path tapes h n) (simulate (run flow tapes n) (fair-run flow tapes h n)) refl)

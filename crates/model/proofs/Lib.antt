@@ -14,9 +14,9 @@ pub mod Exits
 pub mod Follow
 pub mod Path
 pub mod Theorems
+pub mod LeastSteps
 pub mod Constants
 pub mod Fans
 pub mod Pad
 pub mod Computed
 pub mod Examples
-pub mod Paths

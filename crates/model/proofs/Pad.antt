@@ -3,7 +3,7 @@
 use mathlib.Core.Path.{_≡_, refl, sym, ap, ap₂, _∙_, subst}
 use mathlib.Core.Bool.{Bool, true, false, not, cond, _&&_, _||_, false≢true}
 use mathlib.Core.List.{List, [], _∷_, _++_, map}
-use mathlib.Core.Option.{some}
+use mathlib.Core.Option.{Option, some}
 use Prim.Native.Nat.{ℕ, zero, suc, _+_, _-_, _<_, _≤_}
 use native.Mathlib.Omega.{arith}
 use lib.IntN.{ℤ, pos}
@@ -13,7 +13,7 @@ use lib.ListN.{length-append, length-replicate, take-append-drop, replicate-appe
 use lib.Seq.{set-append-left, take-at, drop-at, length-take-le}
 use Rattle.model.specs.Language.{Flow, instruction, Field, tape, output, variable, target, constant, fields}
 use Rattle.model.specs.Machine.{State, Exit, exitIf, hasRecord, exitOf, run}
-use Rattle.model.specs.Distance.{Takes, Distance, NoDistance}
+use Rattle.model.specs.Distance.{weight, exitsTaken, StepTakes, Takes, Distance, NoDistance}
 use Rattle.model.specs.Pattern.{Mark, inside, equal, among, different, mark, pattern}
 use Rattle.graph.specs.Lists.{In, Census}
 use Rattle.graph.proofs.Counting.{census-map}
@@ -153,6 +153,10 @@ module _ {lo hi : ℤ} {flow : Flow} (l : LegalFlow lo hi flow) (nt nv : ℕ) (m
       exit-view wide (run wide (tapes ++ ex) n) ∙ ap (λ (t : State). exitView (viewAt flow (t .next)) t) (run-pad tapes ex c n)
       ∙ exit-pad ex (viewAt flow (s .next)) (sound l (s .next)) s (fair-run flow tapes c n) ∙ sym (exit-view flow s)
 
+  exits-pad : (tapes ex : List (List ℤ)) → length tapes ≡ flow .tapes → (n : ℕ) → exitsTaken wide (tapes ++ ex) n ≡ exitsTaken flow tapes n
+  exits-pad tapes ex c zero = refl
+  exits-pad tapes ex c (suc n) = ap₂ (λ (d : ℕ) (o : Option Exit). d + weight o) (exits-pad tapes ex c n) (exit-run tapes ex c n)
+
   -- tapes for more lanes: unread ones are added, or all beyond the T are dropped
   abbrev unread : List (List ℤ)
   unread = replicate (nt - flow .tapes) []
@@ -168,23 +172,37 @@ module _ {lo hi : ℤ} {flow : Flow} (l : LegalFlow lo hi flow) (nt nv : ℕ) (m
 
   takes-widen : (tapes : List (List ℤ)) → length tapes ≡ flow .tapes → (i : ℕ) (e : Exit) (d : ℕ) → Takes flow tapes i e d
       → Takes wide (tapes ++ unread) i e d
-  takes-widen tapes c i e d t = record {
-    before = t .before;
-    last = t .last;
-    here = ap (λ (s : State). s .next) (run-pad tapes unread c (t .before)) ∙ t .here;
-    exit = exit-run tapes unread c (t .before) ∙ t .exit;
-  }
+  takes-widen tapes c i e d t =
+      let b = t .taking .before in
+      record {
+        step = t .step;
+        taking =
+            record {
+              before = b;
+              last = t .taking .last;
+              here = ap (λ (s : State). s .next) (run-pad tapes unread c b) ∙ t .taking .here;
+              exit = exit-run tapes unread c b ∙ t .taking .exit;
+            };
+        exits = exits-pad tapes unread c (t .step) ∙ t .exits;
+      }
 
   takes-narrow : (tapes : List (List ℤ)) → length tapes ≡ nt → (i : ℕ) (e : Exit) (d : ℕ) → Takes wide tapes i e d
       → Takes flow (take (flow .tapes) tapes) i e d
   takes-narrow tapes c i e d t =
       let few = take (flow .tapes) tapes in
       let rest = drop (flow .tapes) tapes in
+      let b = t .taking .before in
       record {
-        before = t .before;
-        last = t .last;
-        here = ap (λ (s : State). s .next) (sym (run-pad few rest (narrowed tapes c) (t .before)) ∙ split tapes (t .before)) ∙ t .here;
-        exit = sym (exit-run few rest (narrowed tapes c) (t .before)) ∙ ap (exitOf wide) (split tapes (t .before)) ∙ t .exit;
+        step = t .step;
+        taking =
+            record {
+              before = b;
+              last = t .taking .last;
+              here = ap (λ (s : State). s .next) (sym (run-pad few rest (narrowed tapes c) b) ∙ split tapes b) ∙ t .taking .here;
+              exit = sym (exit-run few rest (narrowed tapes c) b) ∙ ap (exitOf wide) (split tapes b) ∙ t .taking .exit;
+            };
+        exits = sym (exits-pad few rest (narrowed tapes c) (t .step))
+            ∙ ap (λ (ts : List (List ℤ)). exitsTaken wide ts (t .step)) (take-append-drop (flow .tapes) tapes) ∙ t .exits;
       }
 
   -- ---- the distances are the same
@@ -210,11 +228,12 @@ module _ {lo hi : ℤ} {flow : Flow} (l : LegalFlow lo hi flow) (nt nv : ℕ) (m
   -- ---- a sample with more tapes is one without: of the others it holds no record
   pub sample-narrow : (i : ℕ) (e : Exit) (d : ℕ) (tapes : List (List ℤ)) → Sample lo hi (wider nt nv flow) i e d tapes
       → Sample lo hi flow i e d (take (flow .tapes) tapes) × (drop (flow .tapes) tapes ≡ replicate (nt - flow .tapes) [])
+  unfolding takes-narrow
   sample-narrow i e d tapes s = (
     record {
       count = few;
       distance = distance-narrow i e d (s .distance);
-      takes = takes-narrow tapes (s .count) i e d (s .takes);
+      takes = takes;
       used = sym (take-at own rest (flow .tapes) size) ∙ ap (take (flow .tapes)) all ∙ take-at none-left unread (flow .tapes) none-size;
       near = λ tape x h k. s .near tape x (subst (In tape) (take-append-drop (flow .tapes) tapes) (in-left (take (flow .tapes) tapes) rest tape h)) k;
     },
@@ -224,8 +243,14 @@ module _ {lo hi : ℤ} {flow : Flow} (l : LegalFlow lo hi flow) (nt nv : ℕ) (m
       few : length (take (flow .tapes) tapes) ≡ flow .tapes
       few = narrowed tapes (s .count)
 
+      takes : Takes flow (take (flow .tapes) tapes) i e d
+      takes = takes-narrow tapes (s .count) i e d (s .takes)
+
+      n : ℕ
+      n = takes .step
+
       own : List (List ℤ)
-      own = run flow (take (flow .tapes) tapes) d .left
+      own = run flow (take (flow .tapes) tapes) n .left
 
       rest : List (List ℤ)
       rest = drop (flow .tapes) tapes
@@ -234,13 +259,13 @@ module _ {lo hi : ℤ} {flow : Flow} (l : LegalFlow lo hi flow) (nt nv : ℕ) (m
       none-left = replicate (flow .tapes) []
 
       size : length own ≡ flow .tapes
-      size = fair-run flow (take (flow .tapes) tapes) few d .tapes-count
+      size = fair-run flow (take (flow .tapes) tapes) few n .tapes-count
 
       none-size : length none-left ≡ flow .tapes
       none-size = length-replicate {A = List ℤ} (flow .tapes) []
 
       all : own ++ rest ≡ none-left ++ unread
-      all = ap (λ (t : State). t .left) (sym (run-pad (take (flow .tapes) tapes) rest few d) ∙ split tapes d) ∙ s .used
+      all = ap (λ (t : State). t .left) (sym (run-pad (take (flow .tapes) tapes) rest few n) ∙ split tapes n) ∙ s .used
           ∙ filled (flow .tapes) nt [] more-tapes
 
   -- ---- and so is the number of configurations

@@ -1,9 +1,11 @@
--- What every run keeps, and the law of one more record: put at the end of a tape whose end was not met, it changes nothing in the run so far.
-use mathlib.Core.Path.{_≡_, refl, sym, ap, _∙_, subst}
+-- What every run keeps, and the law of one more record: put at the end of a tape whose end was not met, it changes nothing in the run so far, nor
+-- the exits that were taken.
+use mathlib.Core.Path.{_≡_, refl, sym, ap, ap₂, _∙_, subst}
 use mathlib.Core.Bool.{Bool, true, false, cond, false≢true}
 use mathlib.Core.List.{List, [], _∷_, _++_}
 use mathlib.Core.Logic.{_≢_}
-use Prim.Native.Nat.{ℕ, zero, suc, _<_}
+use mathlib.Core.Option.{Option, none, some}
+use Prim.Native.Nat.{ℕ, zero, suc, _+_, _<_, _≤_}
 use native.Mathlib.Omega.{arith}
 use native.Mathlib.Decide.{ℕ-discrete}
 use lib.IntN.{ℤ, pos}
@@ -11,9 +13,10 @@ use lib.Signed.{ltZ}
 use lib.ListN.{length, getD, set, length-set, length-replicate}
 use lib.Seq.{getD-set-same, getD-set-other, set-set, set-comm}
 use Rattle.model.specs.Language.{Flow}
-use Rattle.model.specs.Machine.{State, goTo, hasRecord, step, start, steps, run}
+use Rattle.model.specs.Machine.{State, Exit, exitIf, goTo, hasRecord, step, exitOf, start, steps, run}
+use Rattle.model.specs.Distance.{weight, exitsTaken}
 use Rattle.model.proofs.Lists.{getD-like}
-use Rattle.model.proofs.View.{onTape, taken, stepView, step-view}
+use Rattle.model.proofs.View.{onTape, taken, stepView, exitView, step-view, exit-view}
 use Rattle.model.specs.inner.View.{View, reads, sets, tests, goes, stops, viewAt, term}
 
 pub steps-end : (flow : Flow) (n : ℕ) (s : State) → steps flow (suc n) s ≡ step flow (steps flow n s)
@@ -172,3 +175,55 @@ run-more flow tapes c (suc n) a x h o =
     ∙ ap (λ (t : State). stepView (viewAt flow (t .next)) t) (run-more flow tapes c n a x h (open-before w a s o′))
     ∙ step-more a x s (fair-run flow tapes c n) h w o′
     ∙ ap (more a x) (sym (run-end flow tapes n))
+
+-- ---- the exits taken
+pub weight-small : (o : Option Exit) → weight o ≤ 1
+weight-small none = omega arith
+weight-small (some e) = omega arith
+
+-- no more than the steps
+pub exits-few : (flow : Flow) (tapes : List (List ℤ)) (n : ℕ) → exitsTaken flow tapes n ≤ n
+exits-few flow tapes zero = omega arith
+exits-few flow tapes (suc n) = omega (arith, exits-few flow tapes n, weight-small (exitOf flow (run flow tapes n)))
+
+-- so many up to a step as before it, and its own
+pub exits-end : (flow : Flow) (tapes tapes′ : List (List ℤ)) (n : ℕ) → exitsTaken flow tapes n ≡ exitsTaken flow tapes′ n
+    → exitOf flow (run flow tapes n) ≡ exitOf flow (run flow tapes′ n) → exitsTaken flow tapes (suc n) ≡ exitsTaken flow tapes′ (suc n)
+exits-end flow tapes tapes′ n = ap₂ (λ (d : ℕ) (o : Option Exit). d + weight o)
+
+-- one more record at the end of a tape that has not ended leaves the exits so far
+module _ (flow : Flow) (a : ℕ) (x : ℤ) (below : a < flow .tapes) where
+  has-more : (l : List ℤ) (v p m : ℕ) (s : State) → Fair flow s → onTape s a ≡ l → getD (stepView (reads a v p m) s .ended) a false ≡ false
+      → hasRecord (l ++ (x ∷ [])) ≡ hasRecord l
+  has-more [] v p m s k e o = absurd (false≢true (sym o ∙ rw e (getD-set-same (s .ended) a true false (omega (arith, k .ends-count)))))
+  has-more (y ∷ rest) v p m s k e o = refl
+
+  exit-more : (w : View) (s : State) → Fair flow s → getD (stepView w s .ended) a false ≡ false → exitView w (more a x s) ≡ exitView w s
+  exit-more (reads b v p m) s k o = go (ℕ-discrete a b)
+    where
+      Same : ℕ → Type 0
+      Same c = getD (stepView (reads c v p m) s .ended) a false ≡ false → exitView (reads c v p m) (more a x s) ≡ exitView (reads c v p m) s
+
+      offered : getD (append (s .left) a x) a [] ≡ onTape s a ++ (x ∷ [])
+      offered = getD-set-same (s .left) a (onTape s a ++ (x ∷ [])) [] (omega (arith, k .tapes-count))
+
+      go : Dec (a ≡ b) → exitView (reads b v p m) (more a x s) ≡ exitView (reads b v p m) s
+      go (yes q) = subst Same q (λ unended. ap (λ (c : Bool). some (exitIf c)) (ap hasRecord offered ∙ has-more (onTape s a) v p m s k refl unended)) o
+      go (no q) = rw (getD-set-other (s .left) a b (onTape s a ++ (x ∷ [])) [] (λ e. q (sym e))) refl
+  exit-more (sets t v n) s k o = refl
+  exit-more (tests y z p m) s k o = refl
+  exit-more (goes n) s k o = refl
+  exit-more stops s k o = refl
+
+  pub exits-more : (tapes : List (List ℤ)) → length tapes ≡ flow .tapes → (n : ℕ) → getD (run flow tapes n .ended) a false ≡ false
+      → exitsTaken flow (append tapes a x) n ≡ exitsTaken flow tapes n
+  exits-more tapes c zero o = refl
+  exits-more tapes c (suc n) o =
+      let s = run flow tapes n in
+      let w = viewAt flow (s .next) in
+      let later : getD (stepView w s .ended) a false ≡ false = ap (λ (t : State). getD (t .ended) a false) (sym (run-end flow tapes n)) ∙ o in
+      let before = open-before w a s later in
+      let same : exitOf flow (run flow (append tapes a x) n) ≡ exitOf flow s
+      = ap (exitOf flow) (run-more flow tapes c n a x below before) ∙ exit-view flow (more a x s)
+      ∙ exit-more w s (fair-run flow tapes c n) later ∙ sym (exit-view flow s) in
+      exits-end flow (append tapes a x) tapes n (exits-more tapes c n before) same

@@ -16,10 +16,10 @@ pub record Near (lo hi : ℤ) (d : ℕ) (x : ℤ) : Type 0 where
   pub low : T (leZ (lo +ℤ negℤ (pos d)) x)
   pub high : T (leZ x (hi +ℤ pos d))
 
--- T tapes whose run takes the exit after the least number of steps, d, and which hold only the records read up to there
+-- T tapes whose run takes the exit as exit number d, the least, and which hold only the records read up to there
 pub record Sample (lo hi : ℤ) (flow : Flow) (i : ℕ) (e : Exit) (d : ℕ) (tapes : List (List ℤ)) : Type 0 where
   pub count : length tapes ≡ flow .tapes
   pub distance : Distance flow i e d
   pub takes : Takes flow tapes i e d
-  pub used : run flow tapes d .left ≡ replicate (flow .tapes) []
+  pub used : run flow tapes (takes .step) .left ≡ replicate (flow .tapes) []
   pub near : (tape : List ℤ) (x : ℤ) → In tape tapes → In x tape → Near lo hi d x

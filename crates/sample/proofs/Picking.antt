@@ -23,13 +23,14 @@ use Rattle.configuration.specs.inner.Fits.{FlowFits}
 use Rattle.cells.specs.inner.Columns.{placeField, patternField, distanceField, parentField, bucketField, wayField, column, columnsOf, Only}
 use Rattle.cells.specs.inner.Entries.{Entries, entries, entriesOf, distanceOf}
 use Rattle.cells.proofs.Fields.{length-column, word-column-same}
-use Rattle.cells.specs.inner.Way.{Traced}
+use Rattle.cells.proofs.WayBack.{depth-small}
+use Rattle.cells.specs.inner.Way.{Depth, Traced}
 use Rattle.cells.specs.declared.Found.{Found}
 use Rattle.cells.specs.declared.Found.the-variants.{At, Nothing}
 use Rattle.search_table.specs.inner.Table.{Complete}
 use Rattle.search_table.specs.inner.Passes.{blank, Prepared}
 use Rattle.search_table.proofs.Says.{found-distance, found-stored, found-nothing, past-plain}
-use Rattle.sample.specs.inner.Sampling.{Course, course, CourseLeads, endOf, Ends, WrittenBy, Tabled, NearestIs}
+use Rattle.sample.specs.inner.Sampling.{Course, course, exitsAlong, CourseLeads, endOf, Ends, WrittenBy, Tabled, NearestIs}
 use Rattle.sample.specs.inner.Picking.{PickedIs}
 use Rattle.sample.specs.declared.SampleEnd.{SampleEnd}
 use Rattle.sample.specs.declared.SampleEnd.the-variants.{Taken, Never, Refused}
@@ -52,9 +53,11 @@ module _ (c c₁ : List (List ℕ)) (only : Only wayField c c₁) where
       → NearestIs w (entriesOf (columnsOf c₁)) n ops i (exitIf exit) (At k)
   nearest-after w n ops i exit k = subst (λ (e : Entries). NearestIs w e n ops i (exitIf exit) (At k)) entries-kept
 
-  pub traced-after : (path : List ℕ) (n k : ℕ) → Traced (column distanceField c) (column parentField c) path n k (getD (column distanceField c) k 0)
-      → Traced (column distanceField c₁) (column parentField c₁) path n k (getD (column distanceField c₁) k 0)
-  traced-after path n k = subst (λ (e : Entries). Traced (e .distances) (e .parents) path n k (distanceOf e k)) entries-kept
+  pub depth-after : (k steps : ℕ) → Depth (column parentField c) k steps → Depth (column parentField c₁) k steps
+  depth-after k steps = subst (λ (e : Entries). Depth (e .parents) k steps) entries-kept
+
+  pub traced-after : (path : List ℕ) (n k steps : ℕ) → Traced (column parentField c) path n k steps → Traced (column parentField c₁) path n k steps
+  traced-after path n k steps = subst (λ (e : Entries). Traced (e .parents) path n k steps) entries-kept
 
   pub far-after : (k : ℕ) {d : ℕ} → d ≡ getD (column distanceField c) k 0 → d ≡ getD (column distanceField c₁) k 0
   far-after k e = e ∙ ap (λ (t : List ℕ). getD t k 0) (sym (only distanceField (omega arith)))
@@ -138,43 +141,45 @@ module _ {flow : Flow} {e : Entries} {n room : ℕ} {ops : List Op} {w : ℕ} {l
       pub nearest-below : k < n
       nearest-below = found-stored fit complete i (exitIf exit) (getD ops (i - 1) blank) op-is k h
 
-      pub nearest-room : distanceOf e k < room
-      nearest-room = omega (arith, nearest-below, t .walkable .near k nearest-below, t .path-room)
-
       -- its distance, as a number that the code holds
-      module _ {last : ℕ} (is-last : last ≡ distanceOf e k) where
-        pub short-picked : (tapes : ℕ) (row : List ℤ) (r : SampleAnswer) → length row ≤ last → r ≡ bare (Refused ShortRow)
+      module _ {d : ℕ} (is-far : d ≡ distanceOf e k) where
+        pub short-picked : (tapes : ℕ) (row : List ℤ) (r : SampleAnswer) → length row ≤ d → r ≡ bare (Refused ShortRow)
             → PickedIs flow tapes i (exitIf exit) row row r (r .end)
         unfolding PickedIs
         short-picked tapes row r l q =
-            let far : Distance flow i (exitIf exit) (suc last)
-            = subst⁻¹ (λ (m : ℕ). Distance flow i (exitIf exit) (suc m)) is-last
+            let far : Distance flow i (exitIf exit) (suc d)
+            = subst⁻¹ (λ (m : ℕ). Distance flow i (exitIf exit) (suc m)) is-far
             (found-distance fit complete i (exitIf exit) (getD ops (i - 1) blank) op-is k h) in
             subst⁻¹ (λ (x : SampleEnd). PickedIs flow tapes i (exitIf exit) row row r x) (ap (λ (a : SampleAnswer). a .end) q)
-            (refl, q, record { needed = suc last; distance = far; short = omega arith }, refl)
+            (refl, q, record { needed = suc d; distance = far; short = omega arith }, refl)
 
-        module _ {path : List ℕ} (long : length path ≡ room) (traced : Traced (e .distances) (e .parents) path n k (distanceOf e k)) where
-          way : Traced (e .distances) (e .parents) path n k last
-          way = subst⁻¹ (λ (m : ℕ). Traced (e .distances) (e .parents) path n k m) is-last traced
-
+        -- and the way to it
+        module _ {path : List ℕ} (long : length path ≡ room) {steps : ℕ} (deep : Depth (e .parents) k steps)
+            (way : Traced (e .parents) path n k steps) where
           abbrev way-course : Course
-          way-course = course (e .places) (e .patterns) path last ops w lo hi
+          way-course = course (e .places) (e .patterns) (e .distances) path steps ops w lo hi
 
           pub way-leads : CourseLeads way-course flow
-          way-leads = traced-leads fit complete (t .parents) way ops low high prepared (t .walkable) (omega (arith, nearest-room))
+          way-leads =
+              let below = nearest-below in
+              let short = depth-small (t .parents) below deep in
+              traced-leads fit complete way ops low high prepared (t .walkable) (omega (arith, t .walkable .few)) (omega (arith, t .path-room))
 
           way-end : Ends way-course flow exit × (endOf way-course ≡ i)
-          way-end = found-ends fit complete (t .parents) way ops i exit (getD ops (i - 1) blank) op-is h
+          way-end = found-ends fit complete way ops i exit (getD ops (i - 1) blank) op-is h
 
           pub way-ends-there : Ends way-course flow exit
           way-ends-there = way-end .0
 
-          pub taken-picked : {tapes : ℕ} {row row′ : List ℤ} (r : SampleAnswer) → WrittenBy way-course flow exit row row′ (r .lengths) → r .distance ≡ last + 1
+          pub way-exits : exitsAlong way-course steps ≡ d
+          way-exits = ap (distanceOf e) (way .ends) ∙ sym is-far
+
+          pub taken-picked : {tapes : ℕ} {row row′ : List ℤ} (r : SampleAnswer) → WrittenBy way-course flow exit row row′ (r .lengths) → r .distance ≡ d + 1
               → r .tapes ≡ tapes → r .end ≡ Taken → PickedIs flow tapes i (exitIf exit) row row′ r (r .end)
           unfolding PickedIs
-          taken-picked {tapes} {row} {row′} r x d same q =
-              let far : suc last ≡ r .distance = omega arith in
+          taken-picked {tapes} {row} {row′} r x far same q =
+              let there : suc (exitsAlong way-course steps) ≡ r .distance = omega (arith, way-exits) in
               let at : Written lo hi flow i (exitIf exit) (r .distance) row row′ (r .lengths)
-              = subst (λ (m : ℕ). Written lo hi flow i (exitIf exit) m row row′ (r .lengths)) far
-              (subst (λ (j : ℕ). Written lo hi flow j (exitIf exit) (suc last) row row′ (r .lengths)) (way-end .1) x) in
+              = subst (λ (m : ℕ). Written lo hi flow i (exitIf exit) m row row′ (r .lengths)) there
+              (subst (λ (j : ℕ). Written lo hi flow j (exitIf exit) (suc (exitsAlong way-course steps)) row row′ (r .lengths)) (way-end .1) x) in
               subst⁻¹ (λ (x : SampleEnd). PickedIs flow tapes i (exitIf exit) row row′ r x) q (same, rw (t .low, t .high) at at)

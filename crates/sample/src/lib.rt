@@ -16,7 +16,7 @@ ghost use Rattle.cells.specs.inner.Columns.{placeField, patternField, wayField,
 ghost use Rattle.cells.specs.inner.Entries.{entriesOf};
 ghost use Rattle.search_table.specs.inner.Way.{placeOn, Passable, isRead, countedOf, readsOn};
 ghost use Rattle.sample.specs.inner.Steps.{wishOf, takesRecord, termIn, quietWalk, walkTo, rowTo, lastRow, OpFits, Low};
-ghost use Rattle.sample.specs.inner.Sampling.{courseIn, CourseLeads, Ends, Roomy, Following, WrittenBy, Tabled, NearestIs};
+ghost use Rattle.sample.specs.inner.Sampling.{courseIn, exitsAlong, CourseLeads, Ends, Roomy, Following, WrittenBy, Tabled, NearestIs};
 ghost use Rattle.sample.specs.inner.Picking.{PickedIs};
 ghost use Rattle.sample.specs.Written.{bare};
 use cells::Cell;
@@ -250,7 +250,7 @@ fn write_sample(
     requires { ⌜ IsTable (now table) ⌝ }
     requires { ⌜ ((flow : FlowOf) × CourseLeads (courseIn (now cells) steps ops w lo hi) flow
         × Ends (courseIn (now cells) steps ops w lo hi) flow exit) ⌝ }
-    requires { ⌜ suc steps ≤ length (now row) ⌝ }
+    requires { ⌜ suc (exitsAlong (courseIn (now cells) steps ops w lo hi) steps) ≤ length (now row) ⌝ }
     ensures { λ r. ⌜ ((flow : FlowOf)
         → CourseLeads (courseIn (now (cells .entry)) steps ops w lo hi) flow
         → Ends (courseIn (now (cells .entry)) steps ops w lo hi) flow exit
@@ -304,14 +304,16 @@ fn sample_at(
         → PickedIs flow tapes i (exitIf exit) (now (row .entry)) (now (row .exit)) r (r .end)) ⌝ }
 {
     let d = cells::wide(cells::get(cells, k, Cell::DISTANCE));
+    let steps = cells::depth(cells, n, k);
     if row.len() <= d {
         return without(SampleEnd::Refused(Refusal::ShortRow));
     }
-    cells::trace(cells, n, k);
-    let lengths = write_sample(cells, table, d, ops, w, lo, hi, exit, row);
+    cells::trace(cells, n, k, steps);
+    let lengths = write_sample(cells, table, steps, ops, w, lo, hi, exit, row);
+    let distance = d + 1;
     SampleAnswer {
         end: SampleEnd::Taken,
-        distance: d + 1,
+        distance,
         tapes,
         lengths,
     }

@@ -5,13 +5,13 @@ use mathlib.Core.Path.{_≡_, refl, sym, ap, _∙_, subst}
 use mathlib.Core.Bool.{Bool, false}
 use mathlib.Core.List.{List, [], map}
 use mathlib.Core.Option.{Option, some}
-use Prim.Native.Nat.{ℕ, suc, _*_, _≤_, _<_}
+use Prim.Native.Nat.{ℕ, suc, _+_, _*_, _≤_, _<_}
 use native.Mathlib.Omega.{arith}
 use lib.IntN.{ℤ, pos}
 use lib.ListN.{length, getD, set, replicate}
 use Rattle.model.specs.Language.{Flow}
 use Rattle.model.specs.Machine.{State, Exit, p-exit, m-exit, exitIf, hasRecord, step, exitOf}
-use Rattle.model.specs.Distance.{Takes}
+use Rattle.model.specs.Distance.{weight, StepTakes}
 use Rattle.model.specs.Pattern.{Mark, pattern}
 use Rattle.model.specs.Configuration.{Configuration}
 use Rattle.model.specs.Sample.{Near}
@@ -101,21 +101,21 @@ fit-first {lo} {hi} z sizes row h b n = record {
 
 -- with four variables and three tapes, whatever the flow names
 pub follows-first : {lo hi : ℤ} (flow : Flow) → LegalFlow lo hi (wider 3 4 flow) → (sizes : List ℕ) (row : List ℤ)
-    → Follows lo hi (wider 3 4 flow) 0 0 (tapesWritten (firstWalk sizes) row) (firstWalk sizes .values) (origin lo hi (wider 3 4 flow))
+    → Follows lo hi (wider 3 4 flow) 0 0 0 (tapesWritten (firstWalk sizes) row) (firstWalk sizes .values) (origin lo hi (wider 3 4 flow))
 follows-first {lo} {hi} flow l sizes row =
     let wide = wider 3 4 flow in
-    subst (λ (ts : List (List ℤ)). Follows lo hi wide 0 0 ts (firstWalk sizes .values) (origin lo hi wide)) (sym (none-written sizes row))
+    subst (λ (ts : List (List ℤ)). Follows lo hi wide 0 0 0 ts (firstWalk sizes .values) (origin lo hi wide)) (sym (none-written sizes row))
     (follows-start l)
 
 -- ---- a step
 module _ {lo hi : ℤ} {flow : Flow} (l : LegalFlow lo hi flow) where
   -- an edge that reads no record
-  module _ {n r : ℕ} {tapes : List (List ℤ)} {v : List ℤ} {c : Configuration} (q : Follows lo hi flow n r tapes v c) where
+  module _ {n d r : ℕ} {tapes : List (List ℤ)} {v : List ℤ} {c : Configuration} (q : Follows lo hi flow n d r tapes v c) where
     pub follows-silent : (c′ : Configuration) (o : Option Exit) → Edge lo hi flow c o c′ → SilentStep (viewAt flow (c .next)) o
-        → Follows lo hi flow (suc n) r tapes (silentValues (viewAt flow (c .next)) v) c′
-        × ((x : Exit) → o ≡ some x → Takes flow tapes (c .next) x (suc n))
+        → Follows lo hi flow (suc n) (d + weight o) r tapes (silentValues (viewAt flow (c .next)) v) c′
+        × ((x : Exit) → o ≡ some x → StepTakes flow tapes (c .next) x (suc n))
     follows-silent c′ o still s = (
-      subst (λ (u : List ℤ). Follows lo hi flow (suc n) r tapes u c′) same (follows-still l q),
+      subst (λ (u : List ℤ). Follows lo hi flow (suc n) (d + weight o) r tapes u c′) same (follows-still l q),
       takes-still l q,
     )
       where
@@ -141,8 +141,8 @@ module _ {lo hi : ℤ} {flow : Flow} (l : LegalFlow lo hi flow) where
         pattern-alike (l .zero) (alike-set u like (fits-term (literal (pos 0)) (l .zero) like))
 
   -- an edge that takes p of a read
-  module _ {n r : ℕ} {sizes : List ℕ} {walk : Walk} {row : List ℤ} {c : Configuration} (fit : WalkFits lo hi sizes walk row)
-      (q : Follows lo hi flow n r (tapesWritten walk row) (walk .values) c) (a u p m : ℕ) (i : viewAt flow (c .next) ≡ reads a u p m)
+  module _ {n d r : ℕ} {sizes : List ℕ} {walk : Walk} {row : List ℤ} {c : Configuration} (fit : WalkFits lo hi sizes walk row)
+      (q : Follows lo hi flow n d r (tapesWritten walk row) (walk .values) c) (a u p m : ℕ) (i : viewAt flow (c .next) ≡ reads a u p m)
       (known : a < 3) (free : getD (walk .counts) a 0 < getD sizes a 0) (w : List ℤ) where
     abbrev ch : Choice
     ch = chosen lo hi w (walk .values) u
@@ -163,18 +163,18 @@ module _ {lo hi : ℤ} {flow : Flow} (l : LegalFlow lo hi flow) where
       grants : Grants lo hi u w (walk .values) (moveOf ch) (recordOf ch)
       grants = choice-makes (l .zero) (wish-like l q u p (by .y) w wish) (laneValue w u)
 
-      pub follows-read : Follows lo hi flow (suc n) (suc r)
+      pub follows-read : Follows lo hi flow (suc n) (d + 1) (suc r)
           (tapesWritten (walkAfter (chosen lo hi w (walk .values) u) a u walk) (rowAfter (chosen lo hi w (walk .values) u) a walk row))
           (walkAfter (chosen lo hi w (walk .values) u) a u walk .values) c′
       follows-read =
-          subst (Follows lo hi flow (suc n) (suc r) tapes′ (walkAfter ch a u walk .values)) (by .is)
-          (subst (λ (ts : List (List ℤ)). Follows lo hi flow (suc n) (suc r) ts (walkAfter ch a u walk .values) (fedWith lo hi u p (by .y) c))
+          subst (Follows lo hi flow (suc n) (d + 1) (suc r) tapes′ (walkAfter ch a u walk .values)) (by .is)
+          (subst (λ (ts : List (List ℤ)). Follows lo hi flow (suc n) (d + 1) (suc r) ts (walkAfter ch a u walk .values) (fedWith lo hi u p (by .y) c))
           (sym same)
           (follows-fed l q u p (by .y) w wish a m i (by .open-still) (moveOf ch) (recordOf ch) grants))
 
-      pub takes-read : Takes flow
+      pub takes-read : StepTakes flow
           (tapesWritten (walkAfter (chosen lo hi w (walk .values) u) a u walk) (rowAfter (chosen lo hi w (walk .values) u) a walk row))
           (c .next) p-exit (suc n)
       takes-read =
-          subst (λ (ts : List (List ℤ)). Takes flow ts (c .next) p-exit (suc n)) (sym same)
+          subst (λ (ts : List (List ℤ)). StepTakes flow ts (c .next) p-exit (suc n)) (sym same)
           (takes-fed l (q .stands) a u p m i (by .open-still) (moveOf ch) (grants .faithful) (recordOf ch))

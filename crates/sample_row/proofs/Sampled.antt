@@ -1,4 +1,4 @@
--- What a finished walk leaves in the row: if its last step takes the exit, and the number of its steps is the exit's distance, the counts
+-- What a finished walk leaves in the row: if its last step takes the exit, and the number of its exits is the exit's distance, the counts
 -- divide the row into a sample for the exit. The walk has four variables and three tapes, whatever the flow names.
 use mathlib.Core.Path.{_≡_, ap, _∙_, subst}
 use mathlib.Core.List.{List}
@@ -7,7 +7,7 @@ use lib.IntN.{ℤ}
 use lib.ListN.{take}
 use Rattle.model.specs.Language.{Flow}
 use Rattle.model.specs.Machine.{Exit}
-use Rattle.model.specs.Distance.{Takes, Distance}
+use Rattle.model.specs.Distance.{StepTakes, Distance}
 use Rattle.model.specs.Configuration.{Configuration}
 use Rattle.model.specs.Sample.{Sample}
 use Rattle.model.proofs.Follow.{stands-sample}
@@ -23,10 +23,10 @@ use Rattle.sample_row.proofs.WalkInvariant.{written-all}
 
 module _ {lo hi : ℤ} {flow : Flow} (l : LegalFlow lo hi flow) (few-tapes : flow .tapes ≤ 3) (few-values : flow .variables ≤ 4)
     {sizes : List ℕ} {walk : Walk} {row : List ℤ} (fit : WalkFits lo hi sizes walk row) (all : walk .counts ≡ sizes) where
-  pub sample-written : {d r : ℕ} {v : List ℤ} {c : Configuration} → Follows lo hi (wider 3 4 flow) d r (tapesWritten walk row) v c
-      → (i : ℕ) (x : Exit) → Distance flow i x d → Takes (wider 3 4 flow) (tapesWritten walk row) i x d
+  pub sample-written : {n d r : ℕ} {v : List ℤ} {c : Configuration} → Follows lo hi (wider 3 4 flow) n d r (tapesWritten walk row) v c
+      → (i : ℕ) (x : Exit) → Distance flow i x d → StepTakes (wider 3 4 flow) (tapesWritten walk row) i x n
       → Sample lo hi flow i x d (tapesIn (take (flow .tapes) (walk .counts)) row)
-  sample-written {d} q i x dist t =
+  sample-written {n} {d} q i x dist t =
       let far = distance-widen l 3 4 few-tapes few-values i x d dist in
       let wide = stands-sample (legal-wider l 3 4 few-tapes few-values) (q .stands) i x far t in
       let same : take (flow .tapes) (tapesWritten walk row) ≡ tapesIn (take (flow .tapes) (walk .counts)) row

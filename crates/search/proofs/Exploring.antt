@@ -1,11 +1,11 @@
 -- The search of a flow. An entry's words are reached, so they are proper, and its prepared instruction is that of the flow; what its expansion
--- adds is led to by its edges, so the invariant of a breadth-first search is kept, and where no cell is left more is reached than fits.
+-- adds is led to by its edges, so the invariant of a search in the order of distance is kept, and where no cell is left more is reached than fits.
 use mathlib.Core.Path.{_≡_, refl, sym, ap, _∙_, subst, subst₂}
 use mathlib.Core.Bool.{false}
 use mathlib.Core.List.{List}
 use mathlib.Core.Logic.{_⊎_, inl, inr}
 use mathlib.Core.Option.{Option}
-use Prim.Native.Nat.{ℕ, zero, suc, _+_, _%_, _<_, _≤_}
+use Prim.Native.Nat.{ℕ, zero, suc, _+_, _-_, _%_, _<_, _≤_}
 use native.Mathlib.Decide.{ℕ-discrete}
 use native.Mathlib.Omega.{arith}
 use lib.IntN.{ℤ}
@@ -13,18 +13,21 @@ use lib.ListN.{length, getD, List·getD-eq-default}
 use Rattle.graph.specs.Lists.{MoreThan}
 use Rattle.graph.specs.inner.Graph.{Reached}
 use Rattle.graph.proofs.Complete.{entry-induction, dist-small}
-use Rattle.graph.proofs.Search.{search-start, push-one, seen, advance, finish}
+use Rattle.graph.proofs.Search.{Turn, search-start, turn-stored, turn-grown, turned, finish}
+use Rattle.graph.proofs.Table.{grows-extends, grows-wider}
 use Rattle.graph.proofs.Refusal.{start-outnumber, full-outnumber}
-use Rattle.graph.specs.inner.Table.{Table, Held, Extends, Pushed, Searching}
 use Rattle.model.specs.Language.{Flow, stop, instruction}
 use Rattle.model.specs.Machine.{Exit}
-use Rattle.configuration.specs.inner.Place.{atOf}
+use Rattle.model.specs.Distance.{weight}
+use Rattle.model.proofs.Runs.{weight-small}
+use Rattle.configuration.specs.inner.Place.{words, atOf}
 use Rattle.configuration.specs.inner.Op.{opOf, readOp, stopOp}
-use Rattle.configuration.specs.inner.Step.{startOf}
-use Rattle.configuration.specs.inner.Graph.{WordEdge, opAt}
+use Rattle.configuration.specs.inner.Step.{wordExitBy, wordExitOf, startOf}
+use Rattle.configuration.specs.inner.Graph.{WordEdge, moves, takes, opAt, wordGraph}
 use Rattle.configuration.specs.declared.Words.{Words}
 use Rattle.configuration.specs.declared.Op.{Op}
-use Rattle.configuration.specs.declared.Action.the-variants.{Read}
+use Rattle.configuration.specs.declared.Action.{Action}
+use Rattle.configuration.specs.declared.Action.the-variants.{Read, Assign, Test, Go, Stop}
 use Rattle.configuration.proofs.Edges.{read-lane, edge-proper}
 use Rattle.configuration.proofs.Reaches.{start-proper}
 use Rattle.configuration.specs.inner.Fits.{FlowFits, ProperWords}
@@ -34,14 +37,15 @@ use Rattle.cells.specs.inner.Index.{node}
 use Rattle.cells.specs.inner.Entries.{entriesOf, distanceOf, Begun}
 use Rattle.cells.specs.inner.Marks.{isMarked}
 use Rattle.cells.proofs.Fields.{length-column}
-use Rattle.search_table.specs.inner.Table.{wordGraph, wordsAt, tableOf}
-use Rattle.search_visit.specs.inner.Visit.{Grows, none, more, Outgrown, Kept}
-use Rattle.search_visit.specs.inner.Fan.{Marked, LeadsTo, FanFits, GrownIs}
+use Rattle.search_table.specs.inner.Table.{wordsAt, tableOf}
+use Rattle.search_visit.specs.inner.Visit.{Outgrown, Kept}
+use Rattle.search_visit.specs.inner.Fan.{Marked, SearchReady, LeadsTo, FanFits, GrownIs}
 use Rattle.search_table.specs.inner.Passes.{Prepared}
-use Rattle.search.specs.inner.Search.{ExpandedIs, Exploring, Finished, SearchedIs}
+use Rattle.search.specs.inner.Search.{weightBy, weightOf, LeadsAt, ExpandedIs, Exploring, Finished, SearchedIs}
 use Rattle.search.specs.declared.Searched.{Searched}
 use Rattle.search_visit.specs.declared.Grown.{Grown}
-use Rattle.search_visit.proofs.Growing.{grows-extends}
+use Rattle.search_visit.specs.declared.Grown.the-variants.{To, Full}
+use Rattle.search_visit.proofs.Growing.{outgrown-wider, kept-none}
 use Rattle.search_visit.proofs.Visiting.{node-words}
 use Rattle.search_visit.proofs.Marks.{true-false}
 
@@ -68,103 +72,128 @@ module _ {lo : ℤ} {flow : Flow} {ops : List Op} (p : Prepared lo flow ops) whe
       go (yes z) = inl z
       go (no z) = inr (omega arith)
 
--- ---- by the words and the distance that were read
-pub expanded-by : (w : ℕ) (op : Op) (r r′ : Rows) (count cells k : ℕ) (g : Grown) {x : Words} {d : ℕ} → x ≡ wordsAt (entriesOf r) k
-    → d ≡ distanceOf (entriesOf r) k + 1 → GrownIs (LeadsTo w op x) (LeadsTo w op x) w r r′ count cells d k g → ExpandedIs w op r r′ count cells k g
-expanded-by w op r r′ count cells k g same far =
-    subst₂ (λ (x : Words) (d : ℕ). GrownIs (LeadsTo w op x) (LeadsTo w op x) w r r′ count cells d k g) same far
+-- ---- what the steps of an instruction cost
+pub weight-by : (op : Op) (a : Action) (n : ℕ) → op .action ≡ a → n ≡ weightBy a → n ≡ weightOf op
+unfolding weightOf
+weight-by op a n e h = h ∙ ap weightBy (sym e)
 
--- ---- a growth along the edges of entry k
-module _ (lo : ℤ) (w : ℕ) (flow : Flow) {S : Words → Type 0} {d k : ℕ} {t : Table Words} (s : Searching (wordGraph lo w flow) t k)
-    (stored : k < t .count) (near : d ≡ t .dist k + 1) (edges : (y : Words) → S y → LeadsTo w (opAt lo flow (t .node k)) (t .node k) y) where
-  pub grows-searching : {t′ : Table Words} → Grows S d k t t′ → Searching (wordGraph lo w flow) t′ k
-  unfolding wordGraph
-  grows-searching none = s
-  grows-searching (more {t′ = t′} {t″ = t″} {y = y} g a fresh pushed) = go (grows-searching g)
-    where
-      old : Extends t t′
-      old = grows-extends g
+edge-weight : {w : ℕ} {op : Op} {x y : Words} {e : Option Exit} → WordEdge w op x e y → weight e ≡ weightOf op
+unfolding wordExitOf weightOf
+edge-weight {w} {op} {x} moves = go (op .action)
+  where
+    go : (a : Action) → weight (wordExitBy a w op x) ≡ weightBy a
+    go Read = refl
+    go Assign = refl
+    go Test = refl
+    go Go = refl
+    go Stop = refl
+edge-weight (takes y r q t) = ap weightBy (sym r)
 
-      go : Searching (wordGraph lo w flow) t′ k → Searching (wordGraph lo w flow) t″ k
-      go s′ =
-          let (l, edge) = subst (λ (x : Words). LeadsTo w (opAt lo flow x) x y) (sym (old .nodes k stored)) (edges y a) in
-          push-one s′ (omega (arith, old .more)) (subst (λ (n : ℕ). Pushed t′ t″ y n k) (omega (arith, old .dists k stored)) pushed) fresh l edge refl
+pub cost-small : (op : Op) → weightOf op ≤ 1
+cost-small op =
+    let x = words 0 0 in
+    omega (arith, edge-weight {w = 0} {op = op} {x = x} moves, weight-small (wordExitOf 0 op x))
 
--- ---- the search of a flow at entry k
-module _ {lo hi : ℤ} {w : ℕ} {flow : Flow} (f : FlowFits lo hi w flow) {r : Rows} {n cells k : ℕ} (x : Exploring lo w flow r n cells k) where
-  -- the words of entry k, and how much further on its successors are
-  abbrev here : Words
-  here = wordsAt (entriesOf r) k
+-- ---- what `expand` answers
+-- the steps cost something else
+pub expand-none : {w : ℕ} (op : Op) (x : Words) {r : Rows} {count cells : ℕ} (d k : ℕ) {cost : ℕ} → SearchReady w r count cells
+    → (weightOf op ≡ cost → ⊥) → GrownIs (LeadsAt w op cost x) (LeadsAt w op cost x) w r r count cells d k (To count)
+unfolding GrownIs
+expand-none op x d k ready other = (kept-none (ready .filled) (λ z a. other (sym (edge-weight (a .1)) ∙ a .2)), ready .marked)
 
-  abbrev further : ℕ
-  further = distanceOf (entriesOf r) k + 1
+-- all that x leads to costs as much
+all-at : {w : ℕ} {op : Op} {x : Words} {cost : ℕ} → weightOf op ≡ cost → (y : Words) → LeadsTo w op x y → LeadsAt w op cost x y
+all-at same y (e, edge) = (e, edge, edge-weight edge ∙ same)
 
+pub expand-every : (w : ℕ) (op : Op) (x : Words) (r r′ : Rows) (count cells d k : ℕ) {cost : ℕ} → weightOf op ≡ cost → (g : Grown)
+    → GrownIs (LeadsTo w op x) (LeadsTo w op x) w r r′ count cells d k g
+    → GrownIs (LeadsAt w op cost x) (LeadsAt w op cost x) w r r′ count cells d k g
+unfolding GrownIs
+expand-every w op x r r′ count cells d k same (To n) (kept, marks) =
+    (record { filled = kept .filled; grows = grows-wider (all-at same) (kept .grows); all = λ y a. kept .all y (a .0, a .1) }, marks)
+expand-every w op x r r′ count cells d k same Full o = outgrown-wider (all-at same) o
+
+-- by the words and the distance that were read
+pub expanded-by : (w : ℕ) (op : Op) (r r′ : Rows) (count cells k cost : ℕ) (g : Grown) {x : Words} {d : ℕ}
+    → GrownIs (LeadsAt w op cost x) (LeadsAt w op cost x) w r r′ count cells d k g → x ≡ wordsAt (entriesOf r) k
+    → d ≡ distanceOf (entriesOf r) k + cost → ExpandedIs w op r r′ count cells k cost g
+expanded-by w op r r′ count cells k cost g is same far =
+    subst₂ (λ (x : Words) (d : ℕ). GrownIs (LeadsAt w op cost x) (LeadsAt w op cost x) w r r′ count cells d k g) same far is
+
+-- ---- the search of a flow at an entry
+pub settled-within : {lo : ℤ} {w : ℕ} {flow : Flow} {r : Rows} {n cells c k : ℕ} → Exploring lo w flow r n cells c k → c ≤ n
+unfolding tableOf
+settled-within x = x .searching .within
+
+module _ {lo hi : ℤ} {w : ℕ} {flow : Flow} (f : FlowFits lo hi w flow) {r : Rows} {n cells c k : ℕ} (x : Exploring lo w flow r n cells c k) where
   entry-proper : (i : ℕ) → i < n → ProperWords lo w flow (wordsAt (entriesOf r) i)
   unfolding wordGraph tableOf
   entry-proper =
-      entry-induction (x .searching .sound) (λ i. ProperWords lo w flow (wordsAt (entriesOf r) i))
-      (subst (ProperWords lo w flow) (sym (x .searching .sound .origin)) (start-proper f))
+      let sound = x .searching .sound in
+      entry-induction sound (λ i. ProperWords lo w flow (wordsAt (entriesOf r) i))
+      (subst (ProperWords lo w flow) (sym (sound .origin)) (start-proper f))
       (λ i m c p. edge-proper f _ p (c .edge))
 
-  module _ (stored : k < n) where
+  module _ (stored : k < n) {at cost : ℕ} (turn : Turn n c k at cost) where
+    -- the words of the entry, and the distance of what its edges of that cost lead to
+    abbrev here : Words
+    here = wordsAt (entriesOf r) at
+
+    abbrev further : ℕ
+    further = distanceOf (entriesOf r) at + cost
+
+    pub entry-stored : at < n
+    unfolding tableOf
+    entry-stored = turn-stored (x .searching) stored turn
+
     pub entry-fine : {op : Op} → op ≡ opAt lo flow here → FanFits w op here
     entry-fine is =
-        let p = entry-proper k stored in
+        let p = entry-proper at entry-stored in
         record {
           width = f .span .width;
           lane = subst (λ (o : Op). o .action ≡ Read → o .variable < 4) (sym is) (read-lane f here p);
           valid = p .again;
         }
 
-    pub entry-near : distanceOf (entriesOf r) k < mostCells
+    pub entry-near : distanceOf (entriesOf r) at < mostCells
     unfolding wordGraph tableOf
     entry-near =
-        omega (arith, dist-small (x .searching .sound) (λ l. omega arith) k stored, x .ready .filled .index .within, x .ready .filled .index .few)
+        omega (
+          arith,
+          dist-small (x .searching .sound) weight-small at entry-stored,
+          entry-stored,
+          x .ready .filled .index .within,
+          x .ready .filled .index .few,
+        )
 
     module _ {op : Op} (is : op ≡ opAt lo flow here) where
-      led : (y : Words) → LeadsTo w op here y → LeadsTo w (opAt lo flow here) here y
-      led y = subst (λ (o : Op). LeadsTo w o here y) is
-
-      grown-searching : {t′ : Table Words} → Grows (LeadsTo w op here) further k (tableOf (entriesOf r) n) t′
-          → Searching (wordGraph lo w flow) t′ k
-      unfolding tableOf
-      grown-searching = grows-searching lo w flow (x .searching) stored refl led
+      led : (y : Words) → LeadsAt w op cost here y → LeadsAt w (opAt lo flow here) cost here y
+      led y = subst (λ (o : Op). LeadsAt w o cost here y) is
 
       -- no cell is left for what an edge leads to
-      pub explored-full : Outgrown (LeadsTo w op here) further k (tableOf (entriesOf r) n) cells
+      pub explored-full : Outgrown (LeadsAt w op cost here) further at (tableOf (entriesOf r) n) cells
           → MoreThan (Reached (wordGraph lo w flow)) cells
       unfolding wordGraph tableOf
       explored-full o =
           let g = grows-extends (o .grows) in
-          let (l, edge) = subst (λ (y : Words). LeadsTo w (opAt lo flow y) y (o .words)) (sym (g .nodes k stored)) (led (o .words) (o .wanted)) in
-          full-outnumber (grown-searching (o .grows) .sound) cells k l (o .words) (o .full) (omega (arith, g .more)) edge (o .fresh)
+          let sound = turn-grown (x .searching) stored turn (grows-wider led (o .grows)) .sound in
+          let (l, edge) = subst (λ (y : Words). LeadsTo w (opAt lo flow y) y (o .words)) (sym (g .nodes at entry-stored))
+          (led (o .words) (o .wanted) .0, led (o .words) (o .wanted) .1) in
+          full-outnumber sound cells at l (o .words) (o .full) (omega (arith, g .more, entry-stored)) edge (o .fresh)
 
       -- the entry is expanded
       pub explored : {r′ : Rows} {m : ℕ}
-          → Kept (LeadsTo w op here) (LeadsTo w op here) (entriesOf r) (entriesOf r′) (r′ .heads) (r′ .nexts)
-          n cells further k m × Marked w (r′ .fans) (tableOf (entriesOf r′) m) → length (r′ .fans) ≡ length (r .fans)
-          → Exploring lo w flow r′ m cells (k + 1)
+          → Kept (LeadsAt w op cost here) (LeadsAt w op cost here) (entriesOf r) (entriesOf r′) (r′ .heads) (r′ .nexts)
+          n cells further at m × Marked w (r′ .fans) (tableOf (entriesOf r′) m) → length (r′ .fans) ≡ length (r .fans)
+          → Exploring lo w flow r′ m cells (c + (1 - cost)) (k + cost)
       unfolding wordGraph tableOf
       explored {r′} {m} (kept, marks) same =
           record {
             ready = record { filled = kept .filled; room = omega (arith, x .ready .room, same); marked = marks };
-            searching = advance s later (λ l y e. seen s later l (omega arith) (held l y e));
+            searching =
+                turned (x .searching) stored turn (grows-wider led (kept .grows)) weight-small
+                (λ y a. kept .all y (subst (λ (o : Op). LeadsAt w o cost here y) (sym is) a));
           }
-        where
-          g : Extends (tableOf (entriesOf r) n) (tableOf (entriesOf r′) m)
-          g = grows-extends (kept .grows)
-
-          s : Searching (wordGraph lo w flow) (tableOf (entriesOf r′) m) k
-          s = grown-searching (kept .grows)
-
-          later : k < m
-          later = omega (arith, g .more)
-
-          held : (l : Option Exit) (y : Words) → WordEdge w (opAt lo flow (wordsAt (entriesOf r′) k)) (wordsAt (entriesOf r′) k) l y
-              → Held (tableOf (entriesOf r′) m) y
-          held l y e =
-              kept .all y (subst (λ (o : Op). LeadsTo w o here y) (sym is)
-              (l, subst (λ (z : Words). WordEdge w (opAt lo flow z) z l y) (g .nodes k stored) e))
 
   -- no entry is left
   pub search-finished : n ≤ k → Finished lo w flow r cells n
@@ -179,7 +208,7 @@ module _ {lo hi : ℤ} {w : ℕ} {flow : Flow} (f : FlowFits lo hi w flow) {r : 
 -- ---- the beginning
 pub begun-exploring : {lo : ℤ} {w : ℕ} {flow : Flow} (r : Rows) {cells : ℕ} (s : Words) → s ≡ startOf lo
     → Begun (entriesOf r) (r .heads) (r .nexts) (r .fans) cells (node (s .place) (s .pattern)) → cells ≤ length (r .fans)
-    → Exploring lo w flow r 1 cells 0
+    → Exploring lo w flow r 1 cells 0 0
 unfolding wordGraph tableOf
 begun-exploring {lo} {w} {flow} r s is b room =
     record {

@@ -1,4 +1,6 @@
-// The breadth-first search over the configurations of a flow, in lent cells. Entries are expanded in the order in which they were stored.
+// The search over the configurations of a flow in the order of distance, in lent cells. Entries are expanded in the order in which they were
+// stored. A step that takes no exit costs nothing: what it leads to is stored, at the same distance, before an exit is followed. The entry is then
+// settled.
 ghost use mathlib.Core.Path.{_≡_};
 ghost use Prim.Native.Nat.{_<_};
 ghost use lib.ListN.{getD};
@@ -9,8 +11,9 @@ ghost use Rattle.cells.specs.inner.Columns.{distanceField, column, columnsOf};
 ghost use Rattle.cells.specs.inner.Entries.{entriesOf};
 ghost use Rattle.search_table.specs.inner.Table.{wordsAt};
 ghost use Rattle.search_visit.specs.inner.Fan.{SearchReady, FanFits};
-ghost use Rattle.search.specs.inner.Search.{Subject, ExpandedIs, Exploring, SearchedIs};
+ghost use Rattle.search.specs.inner.Search.{weightOf, Subject, ExpandedIs, Exploring, SearchedIs};
 use cells::Cell;
+use configuration::Action;
 use configuration::Op;
 use configuration::Words;
 use configuration::place;
@@ -23,38 +26,58 @@ pub enum Searched {
     Full,
 }
 
-// Visits what entry k leads to.
+// What the steps of an instruction cost: 1 if they take an exit, and else nothing.
+fn weight(op: Op) -> u32
+    ensures { λ r. ⌜ r ≡ weightOf op ⌝ }
+{
+    let action = op.action;
+    match action {
+        Action::Read => 1,
+        Action::Assign => 0,
+        Action::Test => 1,
+        Action::Go => 0,
+        Action::Stop => 0,
+    }
+}
+
+// Visits what entry i leads to, if its steps cost so much.
 fn expand(
     cells: &mut [[u32; Cell::WORDS]],
     table: &[u16],
     count: usize,
     size: usize,
-    k: usize,
+    i: usize,
+    cost: u32,
     op: Op,
     w: u64,
 ) -> Grown
     requires { ⌜ IsTable (now table) ⌝ }
     requires { ⌜ SearchReady w (columnsOf (now cells)) count size ⌝ }
-    requires { ⌜ k < count ⌝ }
-    requires { ⌜ FanFits w op (wordsAt (entriesOf (columnsOf (now cells))) k) ⌝ }
-    requires { ⌜ getD (column distanceField (now cells)) k 0 < mostCells ⌝ }
+    requires { ⌜ i < count ⌝ }
+    requires { ⌜ FanFits w op (wordsAt (entriesOf (columnsOf (now cells))) i) ⌝ }
+    requires { ⌜ getD (column distanceField (now cells)) i 0 < mostCells ⌝ }
     ensures { λ r. ⌜ ExpandedIs w op
         (columnsOf (now (cells .entry)))
         (columnsOf (now (cells .exit)))
-        count size k r ⌝ }
+        count size i cost r ⌝ }
 {
-    let x = search_table::words_at(cells, k);
-    let d = cells::get(cells, k, Cell::DISTANCE) + 1;
-    let g = search_visit::fan(cells, table, count, size, d, k, op, w, x);
+    if weight(op) != cost {
+        return Grown::To(count);
+    }
+    let x = search_table::words_at(cells, i);
+    let d = cells::get(cells, i, Cell::DISTANCE) + cost;
+    let g = search_visit::fan(cells, table, count, size, d, i, op, w, x);
     let Grown::To(n) = g else {
         return Grown::Full;
     };
     let y = configuration::next(table, op, w, x);
-    let s = search_visit::visit(cells, n, size, d, k, y);
+    let s = search_visit::visit(cells, n, size, d, i, y);
     search_visit::after_visit(s)
 }
 
-// Expands entries until none is left or no cell is. Instruction number i is ops[i - 1]; a number that names none stops.
+// Expands entries until none is left or no cell is. Each is looked at twice: c is the first that is not settled, for steps that cost nothing, and
+// k, when all are settled, the first that is not expanded, for those that cost 1. Instruction number i is ops[i - 1]; a number that names none
+// stops.
 fn walk(
     cells: &mut [[u32; Cell::WORDS]],
     table: &[u16],
@@ -64,26 +87,34 @@ fn walk(
 ) -> Searched
     requires { ⌜ IsTable (now table) ⌝ }
     requires { ⌜ ((s : Subject w ops) × Exploring (s .lo) w (s .flow)
-        (columnsOf (now cells)) 1 size 0) ⌝ }
+        (columnsOf (now cells)) 1 size 0 0) ⌝ }
     ensures { λ r. ⌜ ((s : Subject w ops) → Exploring (s .lo) w (s .flow)
-        (columnsOf (now (cells .entry))) 1 size 0
+        (columnsOf (now (cells .entry))) 1 size 0 0
         → SearchedIs (s .lo) w (s .flow)
         (columnsOf (now (cells .exit))) size r) ⌝ }
 {
     let mut n = 1;
+    let mut c = 0;
     let mut k = 0;
     while k < n {
-        let i = (place::at(cells::word(cells, k, Cell::PLACE)) + 127) % 128;
+        let mut at = k;
+        let mut cost = 1;
+        if c < n {
+            at = c;
+            cost = 0;
+        }
+        let i = (place::at(cells::word(cells, at, Cell::PLACE)) + 127) % 128;
         let mut op = Op::stop();
         if i < Flow::MAX_INSTRUCTIONS {
             op = ops[i];
         }
-        let g = expand(cells, table, n, size, k, op, w);
+        let g = expand(cells, table, n, size, at, cost, op, w);
         let Grown::To(m) = g else {
             return Searched::Full;
         };
         n = m;
-        k += 1;
+        c += 1 - cost as usize;
+        k += cost as usize;
     }
     Searched::Done(n)
 }

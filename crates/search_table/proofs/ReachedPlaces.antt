@@ -12,12 +12,13 @@ use Rattle.graph.proofs.Complete.{entry-path, dist-small}
 use Rattle.model.specs.Language.{Flow, instruction}
 use Rattle.model.specs.Machine.{Exit}
 use Rattle.model.specs.inner.View.{View, viewAt, Targeted}
+use Rattle.model.proofs.Runs.{weight-small}
 use Rattle.flow.specs.Limits.{maxInstructions}
 use Rattle.flow.specs.Legal.{Legal}
 use Rattle.flow.proofs.Tests.{legal-targets}
 use Rattle.configuration.specs.inner.Place.{atOf}
 use Rattle.configuration.specs.inner.Step.{holdsOf, goOn, takeOf, nextBy, nextOf, startOf}
-use Rattle.configuration.specs.inner.Graph.{WordEdge, moves, takes, opAt}
+use Rattle.configuration.specs.inner.Graph.{WordEdge, moves, takes, opAt, wordGraph}
 use Rattle.configuration.specs.declared.Words.{Words}
 use Rattle.configuration.specs.declared.Op.{Op}
 use Rattle.configuration.specs.declared.Action.{Action}
@@ -26,7 +27,7 @@ use Rattle.configuration.proofs.Means.{Means, means-reads, means-sets, means-te
 use Rattle.configuration.proofs.Places.{at-go, at-finish}
 use Rattle.cells.specs.Cells.{mostCells}
 use Rattle.cells.specs.inner.Entries.{Entries}
-use Rattle.search_table.specs.inner.Table.{wordGraph, tableOf, Complete}
+use Rattle.search_table.specs.inner.Table.{tableOf, Complete}
 use Rattle.search_table.specs.inner.Passes.{Stands, Walkable}
 
 -- the number of an instruction that an array of prepared ones holds
@@ -96,5 +97,5 @@ complete-walkable {lo} {w} l t few a b c =
       pattern-room = b;
       distance-room = c;
       stands = λ k h. path-stands l lo w (entry-path (t .sound) k h);
-      near = λ k h. dist-small (t .sound) (λ m. omega arith) k h;
+      near = dist-small (t .sound) weight-small;
     }

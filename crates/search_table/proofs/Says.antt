@@ -1,5 +1,5 @@
--- The distances that a finished table gives. An entry that stands at an instruction and takes an exit is found by as many steps as its
--- distance, and whatever is found is an entry, at no more steps. Distances never fall along the index, so that the first entry that takes
+-- The distances that a finished table gives. An entry that stands at an instruction and takes an exit is found by as many exits as its
+-- distance, and whatever is found is an entry, at no more exits. Distances never fall along the index, so that the first entry that takes
 -- the exit is the nearest; if none does, no tapes take it. Of an instruction that has no exits none is ever taken.
 use mathlib.Core.Path.{_≡_, refl, sym, ap, subst}
 use mathlib.Core.Bool.{Bool, true, false, _&&_}
@@ -31,7 +31,6 @@ use Rattle.search_table.specs.inner.Table.{wordsAt, tableOf, Complete}
 use Rattle.model.specs.Language.{hasExits}
 use Rattle.model.specs.Distance.{Says}
 use Rattle.search_table.specs.inner.Passes.{Prepared, takesAt, First, FirstIs, Listed, unmet, met, Column}
-use Rattle.search_table.proofs.Words.{reached-path, path-reached}
 
 both-true : (a b : Bool) → a ≡ true → b ≡ true → a && b ≡ true
 both-true a b h k = rw (h, k)
@@ -49,7 +48,7 @@ module _ {lo hi : ℤ} {w : ℕ} {flow : Flow} (f : FlowFits lo hi w flow) {e : 
       let here = eqb-true (atOf (y .place)) i p in
       record {
         at = y;
-        reached = path-reached (entry-path (t .sound) k l);
+        path = entry-path (t .sound) k l;
         here = here;
         takes = subst (λ (j : ℕ). takesOf w (opOf lo (instruction flow j)) y x ≡ true) (sym here) q;
       }
@@ -57,7 +56,7 @@ module _ {lo hi : ℤ} {w : ℕ} {flow : Flow} (f : FlowFits lo hi w flow) {e : 
   finds-takes : (m : ℕ) → Finds f i x m → (k : ℕ) × (k < n) × (takes k ≡ true) × (distanceOf e k ≤ m)
   unfolding takesAt tableOf
   finds-takes m q =
-      let s = path-stored (t .sound) (t .closed) (reached-path (q .reached)) in
+      let s = path-stored (t .sound) (t .closed) (q .path) in
       let y = q .at in
       let op = opOf lo (instruction flow i) in
       let k = subst (λ (j : ℕ). takesOf w (opOf lo (instruction flow j)) y x ≡ true) (q .here) (q .takes) in (

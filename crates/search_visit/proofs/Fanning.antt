@@ -31,7 +31,8 @@ use Rattle.search_visit.specs.declared.Visited.{Visited}
 use Rattle.search_visit.specs.declared.Visited.the-variants.{At, Full as None}
 use Rattle.search_visit.specs.declared.Grown.{Grown}
 use Rattle.search_visit.specs.declared.Grown.the-variants.{To, Full}
-use Rattle.search_visit.proofs.Growing.{grows-extends, grows-then, grows-wider, outgrown-then, outgrown-wider, kept-none, kept-visit, outgrown-visit, met-count, kept-count}
+use Rattle.graph.proofs.Table.{grows-extends, grows-then, grows-wider}
+use Rattle.search_visit.proofs.Growing.{outgrown-then, outgrown-wider, kept-none, kept-visit, outgrown-visit, met-count, kept-count}
 use Rattle.search_visit.proofs.Visiting.{visited-at, visited-full}
 use Rattle.search_visit.proofs.Marks.{true-false, fresh-at, marked-kept, marked-more}
 use Rattle.graph.specs.inner.Table.{Held}

@@ -1,25 +1,17 @@
--- A table that grows entry by entry: what stays, how two growths make one, and what is kept when one more is visited.
+-- What is kept when one more is visited, and what it means that no cell is left.
 use mathlib.Core.Path.{_≡_, sym, _∙_, subst}
 use mathlib.Core.List.{List}
 use mathlib.Core.Logic.{_⊎_, inl, inr}
 use Prim.Native.Nat.{ℕ, _≤_}
-use Rattle.graph.proofs.Table.{extends-same, extends-then, held-kept}
-use Rattle.graph.specs.inner.Table.{Table, Held, Extends}
+use Rattle.graph.proofs.Table.{held-kept, grows-extends, grows-then, grows-wider}
+use Rattle.graph.specs.inner.Table.{Table, Held, Grows, none}
 use Rattle.configuration.specs.declared.Words.{Words}
 use Rattle.cells.specs.inner.Entries.{Entries, Filled}
 use Rattle.search_table.specs.inner.Table.{tableOf}
-use Rattle.search_visit.specs.inner.Visit.{Grows, none, more, Outgrown, Met, Kept}
+use Rattle.search_visit.specs.inner.Visit.{Outgrown, Met, Kept}
 
--- ---- growth
+-- ---- no cell left, after a growth, and for a wider set
 module _ {S : Words → Type 0} {d k : ℕ} where
-  pub grows-extends : {t t′ : Table Words} → Grows S d k t t′ → Extends t t′
-  grows-extends {t} none = extends-same t
-  grows-extends (more g s f p) = extends-then (grows-extends g) (p .old)
-
-  pub grows-then : {t t′ t″ : Table Words} → Grows S d k t t′ → Grows S d k t′ t″ → Grows S d k t t″
-  grows-then g none = g
-  grows-then g (more h s f p) = more (grows-then g h) s f p
-
   pub outgrown-then : {t t′ : Table Words} {cells : ℕ} → Grows S d k t t′ → Outgrown S d k t′ cells → Outgrown S d k t cells
   outgrown-then g o =
       record {
@@ -31,16 +23,11 @@ module _ {S : Words → Type 0} {d k : ℕ} where
         full = o .full;
       }
 
-module _ {S S′ : Words → Type 0} {d k : ℕ} (wider : (y : Words) → S y → S′ y) where
-  pub grows-wider : {t t′ : Table Words} → Grows S d k t t′ → Grows S′ d k t t′
-  grows-wider none = none
-  grows-wider (more {y = y} g s f p) = more (grows-wider g) (wider y s) f p
-
-  pub outgrown-wider : {t : Table Words} {cells : ℕ} → Outgrown S d k t cells → Outgrown S′ d k t cells
-  outgrown-wider o =
+  pub outgrown-wider : {S′ : Words → Type 0} → ((y : Words) → S y → S′ y) → {t : Table Words} {cells : ℕ} → Outgrown S d k t cells → Outgrown S′ d k t cells
+  outgrown-wider wider o =
       record {
         table = o .table;
-        grows = grows-wider (o .grows);
+        grows = grows-wider wider (o .grows);
         words = o .words;
         wanted = wider (o .words) (o .wanted);
         fresh = o .fresh;

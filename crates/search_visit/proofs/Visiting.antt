@@ -12,10 +12,10 @@ use Rattle.cells.specs.declared.Found.the-variants.{At as Hit, Nothing}
 use Rattle.cells.proofs.Walk.{found-at, find-nothing}
 use Rattle.cells.proofs.Entering.{node-stays, distance-stays, parent-stays, node-entered, distance-entered, parent-entered}
 use Rattle.search_table.specs.inner.Table.{wordsAt, tableOf}
-use Rattle.search_visit.specs.inner.Visit.{none, more, Outgrown, Met, VisitedIs}
+use Rattle.search_visit.specs.inner.Visit.{Outgrown, Met, VisitedIs}
 use Rattle.search_visit.specs.declared.Visited.{Visited}
 use Rattle.search_visit.specs.declared.Visited.the-variants.{At, Full}
-use Rattle.graph.specs.inner.Table.{Fresh, Pushed}
+use Rattle.graph.specs.inner.Table.{Fresh, Pushed, none, more}
 
 -- ---- a node of the cells and words are the same two words
 pub node-words : {a b : Node} → a ≡ b → words (a .place) (a .pattern) ≡ words (b .place) (b .pattern)

@@ -49,7 +49,7 @@ no-exits i = ap hasExits (always-stop i)
 
 not-taken : (i : ℕ) (e : Exit) → NoDistance onlyStop i e
 not-taken i e tapes n count t =
-    let ends : none ≡ some e = sym (ap (exitOf onlyStop) (stays tapes (t .before))) ∙ t .exit in
+    let ends : none ≡ some e = sym (ap (exitOf onlyStop) (stays tapes (t .taking .before))) ∙ t .taking .exit in
     let z : _≡_ {A = ℕ} 0 1 = cc in
     omega arith
 

@@ -62,8 +62,7 @@ module _ {flow : Flow} {p : Plan} (plan : Planned flow p) (c : List (List ℕ)) 
         high = high ∙ plan .high;
         prepared = plan .prepared;
         complete = f .complete;
-        parents = complete-parents (f .complete) (omega (arith, x .within, x .few)) (omega (arith, x .within, f .filled .distance-room))
-            (omega (arith, x .within, f .filled .parent-room));
+        parents = complete-parents (f .complete) (omega (arith, x .within, x .few)) (omega (arith, x .within, f .filled .parent-room));
         walkable = finished-walkable plan f;
         path-room = omega (arith, x .within, x .next-room, length-column nextField c);
         wanted = wanted;

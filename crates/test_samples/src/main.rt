@@ -1,7 +1,7 @@
 // Asks for a sample of every exit of each flow of data/flows, and of data/wide with 65,536 cells lent, and runs it. A line says the
-// exit's distance, or none. After a distance it says `taken` if the run of the sample takes the exit with the last of that many steps and
-// not before, and reads all records of the sample, and if the rest of the row is as it was. The flows, and the answers in stdout, are made
-// by tests/reports.py.
+// exit's distance, or none. After a distance it says `taken` if the run of the sample takes the exit first as exit number that, and has read
+// all records of the sample by then, and if the rest of the row is as it was. The flows, and the answers in stdout, are made by
+// tests/reports.py.
 ghost use Prim.Native.Nat.{_<_};
 ghost use Rattle.flow.specs.Limits.{maxInstructions};
 use flow::Flow;
@@ -80,6 +80,28 @@ fn reads_all(f: Flow, ran: RunAnswer, records: u64) -> bool {
     left == 0
 }
 
+// Whether a run took so many exits. What is left of the number falls, so nothing can wrap.
+fn takes_all(ran: RunAnswer, exits: u64) -> bool {
+    let p = ran.p;
+    let m = ran.m;
+    let mut left = exits;
+    let mut i = 0;
+    while i < Flow::MAX_INSTRUCTIONS {
+        let n = p[i] as u64;
+        if left < n {
+            return false;
+        }
+        left -= n;
+        let n = m[i] as u64;
+        if left < n {
+            return false;
+        }
+        left -= n;
+        i += 1;
+    }
+    left == 0
+}
+
 // How often a run took an exit.
 fn times(ran: RunAnswer, i: usize, p: bool) -> u32 {
     if Flow::MAX_INSTRUCTIONS <= i {
@@ -93,7 +115,21 @@ fn times(ran: RunAnswer, i: usize, p: bool) -> u32 {
     counts[i]
 }
 
-// Whether tapes are a sample for exit p or m of instruction i + 1: a run on them takes it with step d and not before, and reads all records.
+// With which step a run on the tapes first takes exit p or m of instruction i + 1, found by halves; past 131,072 for a later step or none.
+fn first_step(text: &[u8], i: usize, p: bool, records: &[i32], lengths: &[usize]) -> u64 {
+    let mut before = 0;
+    let mut span = 65536;
+    while 0 < span {
+        let ran = run(text, before + span, records, lengths);
+        if times(ran, i, p) == 0 {
+            before += span;
+        }
+        span /= 2;
+    }
+    before + 1
+}
+
+// Whether tapes are a sample for exit p or m of instruction i + 1: a run on them takes it first as exit number d, and has read all records then.
 fn is_sample(
     text: &[u8],
     f: Flow,
@@ -103,14 +139,10 @@ fn is_sample(
     records: &[i32],
     lengths: &[usize],
 ) -> bool {
-    if d == 0 {
-        return false;
-    }
-    let before = run(text, d - 1, records, lengths);
-    let ran = run(text, d, records, lengths);
-    let steps = (before.steps == d - 1) & (ran.steps == d);
-    let once = (times(before, i, p) == 0) & (times(ran, i, p) == 1);
-    steps & once & reads_all(f, ran, records.len() as u64)
+    let n = first_step(text, i, p, records, lengths);
+    let ran = run(text, n, records, lengths);
+    let first = (ran.steps == n) & (times(ran, i, p) == 1);
+    first & takes_all(ran, d) & reads_all(f, ran, records.len() as u64)
 }
 
 // The sum of lengths, or `most` where it is more.

@@ -4,7 +4,7 @@ use crate::documents::bound;
 use crate::documents::flow::{Flow, Refusal};
 use crate::documents::interpreter::{self, End};
 use crate::documents::reader;
-use crate::documents::sample::{faults as sample_faults, part, wanted};
+use crate::documents::sample::{faults as sample_faults, part, up_to, wanted};
 use crate::documents::search::Census;
 use crate::ffi::{self, Words};
 use crate::lent::{Cell, Lent};
@@ -160,8 +160,14 @@ pub struct SampleCase {
     pub row: usize,
 }
 
-/// The check, and the records of a sample that is given and judged right.
-pub fn sample(rng: &mut Rng, text: &[u8], known: &Known, cells: &mut Lent<Words>, case: &SampleCase) -> (Checked, Vec<i32>) {
+/// A sample that is given and judged right: its distance, the steps of its run up to and with the exit, and its records.
+pub struct Judged {
+    pub distance: u32,
+    pub steps: u64,
+    pub records: Vec<i32>,
+}
+
+pub fn sample(rng: &mut Rng, text: &[u8], known: &Known, cells: &mut Lent<Words>, case: &SampleCase) -> (Checked, Option<Judged>) {
     // Any number but 0 asks for exit p.
     let exit = if case.exit { *rng.pick(&[1, 1, 2, 255]) } else { 0 };
     let mut bytes = Lent::of(rng, text);
@@ -175,7 +181,7 @@ pub fn sample(rng: &mut Rng, text: &[u8], known: &Known, cells: &mut Lent<Words>
         )
     };
     let mut faults = vec![bytes.changed("text")];
-    let mut judged = Vec::new();
+    let mut judged = None;
     let given = known.as_ref().map_err(|why| *why).and_then(|(flow, census)| {
         let distance = wanted(flow, case.instruction, case.exit, searched(census, cells.len()), case.row)?;
         Ok(distance.map(|d| (flow, d)))
@@ -200,8 +206,10 @@ pub fn sample(rng: &mut Rng, text: &[u8], known: &Known, cells: &mut Lent<Words>
             if whole {
                 let found = sample_faults(flow, case.instruction, case.exit, d, row.now(), &lengths);
                 if found.is_empty() {
-                    faults.extend(handed_on(rng, text, row.now(), records, d, &lengths[..flow.tapes]));
-                    judged = records.to_vec();
+                    let lengths: Vec<usize> = lengths[..flow.tapes].iter().map(|n| *n as usize).collect();
+                    let steps = up_to(flow, case.instruction, case.exit, d, records, &lengths).map_or(0, |ran| ran.steps);
+                    faults.extend(handed_on(rng, text, row.now(), records, steps, lengths));
+                    judged = Some(Judged { distance: d, steps, records: records.to_vec() });
                 }
                 faults.extend(found.into_iter().map(Some));
             }
@@ -210,19 +218,18 @@ pub fn sample(rng: &mut Rng, text: &[u8], known: &Known, cells: &mut Lent<Words>
     };
     let checked = checked(returned, outcome, faults);
     let right = checked.faults.is_empty();
-    (checked, if right { judged } else { Vec::new() })
+    (checked, judged.filter(|_| right))
 }
 
-/// A sample handed on with its T lengths: to the helper, for every tape, tape 0 and tape T + 1, and to a run.
-fn handed_on(rng: &mut Rng, text: &[u8], row: &[i32], records: &[i32], d: u32, lengths: &[u64]) -> Faults {
-    let lengths: Vec<usize> = lengths.iter().map(|n| *n as usize).collect();
+/// A sample handed on with its T lengths: to the helper, for every tape, tape 0 and tape T + 1, and to a run of so many steps.
+fn handed_on(rng: &mut Rng, text: &[u8], row: &[i32], records: &[i32], steps: u64, lengths: Vec<usize>) -> Faults {
     let mut faults = Vec::new();
     for number in 0..=lengths.len() + 1 {
         let row = if rng.percent(50) { row } else { records };
         let asked = tape(rng, &TapeCase { row: row.to_vec(), lengths: lengths.clone(), tape: number });
         faults.extend(asked.faults.into_iter().map(|fault| Some(format!("tape {number}: {fault}"))));
     }
-    let case = RunCase { limit: u64::from(d), records: records.to_vec(), lengths, numbers: d as usize, values: d as usize };
+    let case = RunCase { limit: steps, records: records.to_vec(), lengths, numbers: steps as usize, values: steps as usize };
     faults.extend(run(rng, text, &case).faults.into_iter().map(|fault| Some(format!("its run: {fault}"))));
     faults
 }

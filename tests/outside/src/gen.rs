@@ -359,9 +359,10 @@ pub fn edge_of_four(n: usize, above: bool) -> Flow {
     Flow { tapes: 1, outputs: 0, variables: 4, instructions }
 }
 
-/// A counter of four digits, then a record that must lie beyond 9999 or -9999: its bound, a constant and the distance, passes 16 bits.
+/// A counter of four digits, then a record that must lie beyond 9999 or -9999: its bound, a constant and the distance, passes 16 bits. The
+/// distance is 54, 35, 27 and 27 comparisons in a round of each digit, 392, 49, 7 and 1 rounds, and two exits more: 23,101.
 pub fn late(above: bool) -> Flow {
-    let mut flow = counter(&[8; 4], 0);
+    let mut flow = counter(&[10, 8, 7, 7], 0);
     let i = flow.instructions.len() - 1;
     flow.instructions.truncate(i - 1);
     flow.instructions.push(Instruction::Read { tape: 1, v: 1, p: i + 1, m: i + 2 });
@@ -533,16 +534,91 @@ pub fn wide(rng: &mut Rng) -> Flow {
     }
 }
 
+/// An instruction with one way on, to `n`. If it is idle, it changes no variable.
+fn plain(rng: &mut Rng, flow: &Flow, idle: bool, n: usize) -> Instruction {
+    let (u, v) = (1 + rng.below(flow.variables), 1 + rng.below(flow.variables));
+    let (lo, hi) = flow.bounds();
+    match rng.below(10) {
+        0 | 1 if flow.outputs > 0 => Instruction::Put { v, output: 1 + rng.below(flow.outputs), n },
+        2 | 3 if idle => Instruction::Copy { u: v, v, n },
+        2 | 3 => Instruction::Copy { u, v, n },
+        4 | 5 if !idle => Instruction::Set { c: rng.from(lo, hi), v, n },
+        _ => Instruction::Nop { n },
+    }
+}
+
+/// Instructions with one way on put into a flow (document 02, T-04): before the first, or in a way from one to another, which other ways to
+/// the same instruction may share; they stand anywhere. If they are idle, each distance stays. And the number that each instruction now has.
+pub fn padded(rng: &mut Rng, mut flow: Flow, idle: bool) -> (Flow, Vec<usize>) {
+    let count = flow.instructions.len();
+    let more = (if rng.percent(30) { 64 } else { 1 + rng.below(12) }).min(64 - count);
+    // Names of the instructions in the order of their lines; a new one has the next name.
+    let mut order: Vec<usize> = (1..=count).collect();
+    for new in count + 1..=count + more {
+        let ways: Vec<usize> = flow.instructions.iter().flat_map(|x| x.targets()).collect();
+        let chosen = rng.below(ways.len() + 1);
+        let there = *ways.get(chosen).unwrap_or(&order[0]);
+        let at = if chosen < ways.len() { 1 + rng.below(order.len()) } else { 0 };
+        order.insert(at, new);
+        let mut way = 0;
+        for x in &mut flow.instructions {
+            x.redirect(|target| {
+                way += 1;
+                if way == chosen + 1 || chosen < ways.len() && target == there && rng.percent(25) {
+                    new
+                } else {
+                    target
+                }
+            });
+        }
+        flow.instructions.push(plain(rng, &flow, idle, there));
+    }
+    let numbers: Vec<usize> = (1..=count + more).map(|name| 1 + order.iter().position(|x| *x == name).unwrap_or(0)).collect();
+    flow.instructions.iter_mut().for_each(|x| x.redirect(|target| numbers[target - 1]));
+    flow.instructions = order.iter().map(|name| flow.instructions[name - 1]).collect();
+    (flow, numbers[..count].to_vec())
+}
+
+/// Two ways from one comparison to one configuration, one with more exits and the other with more steps, and some instructions behind it.
+fn detour(rng: &mut Rng) -> Flow {
+    let tests = 1 + rng.below(3);
+    let idle = tests + 1 + rng.below(8);
+    let (few, many) = (3, 4 + idle);
+    let goal = many + tests + 1;
+    let stop = goal + 1 + rng.below(4);
+    let (p, m) = *rng.pick(&[(few, many), (many, few)]);
+    let mut instructions = vec![Instruction::Read { tape: 1, v: 1, p: 2, m: stop }, Instruction::Over { c: rng.from(-1, 1), v: 1, p, m }];
+    instructions.push(Instruction::Set { c: 0, v: 1, n: few + 1 });
+    instructions.extend((1..=idle).map(|i| Instruction::Nop { n: if i < idle { few + i + 1 } else { goal } }));
+    instructions.push(Instruction::Set { c: 0, v: 1, n: many + 1 });
+    instructions.extend((1..=tests).map(|i| Instruction::Less { u: 1, v: 1, p: stop, m: many + i + 1 }));
+    for i in goal..stop {
+        let (p, m, c) = (i + 1, *rng.pick(&[1, goal, i + 1, stop]), rng.from(-1, 2));
+        instructions.push(match rng.below(4) {
+            0 => Instruction::Over { c, v: 1, p, m },
+            1 => Instruction::Under { v: 1, c, p, m },
+            _ => Instruction::Read { tape: 1, v: 1, p, m },
+        });
+    }
+    instructions.push(Instruction::Stop);
+    Flow { tapes: 1, outputs: 0, variables: 1, instructions }
+}
+
 /// A legal flow.
 pub fn flow(rng: &mut Rng) -> Flow {
-    match rng.below(20) {
+    let flow = match rng.below(20) {
         0..=3 => chain(rng),
         4 | 5 => squeeze(rng),
         6 => orders(rng),
         7 => counters(rng),
         8 => far_apart(rng),
         9 => placed(rng),
+        10 => detour(rng),
         _ => mixed(rng),
+    };
+    match rng.below(4) {
+        0 => padded(rng, flow, false).0,
+        _ => flow,
     }
 }
 

@@ -2,11 +2,11 @@
 //!
 //!     outside [SEED [ROUNDS]]
 //!
-//! The implementation (documents/) is written from documents 01, 02 (T-01, T-02, T-05, T-08, T-09) and 000. Some of the texts go to the
+//! The implementation (documents/) is written from documents 01, 02 (T-01, T-02, T-04, T-05, T-08, T-09) and 000. Some of the texts go to the
 //! programs `report` and `bound` too, if their paths are in REPORT and BOUND. Prints the seed, the cases by sort and outcome, those of the
-//! empty text and some with wide constants again by themselves, the reports by the pairs of variables that they compare, and `N cases, M
-//! differences`. A difference is printed with its case in full, and the status is then 1; it is 1 too if an outcome that documents 01 and 02
-//! know, or one of those pairs, was never met.
+//! empty text, some with wide constants and some where exits are not steps again by themselves, the reports by the pairs of variables that
+//! they compare, and `N cases, M differences`. A difference is printed with its case in full, and the status is then 1; it is 1 too if an
+//! outcome that documents 01 and 02 know, or one of those pairs, was never met.
 
 mod cases;
 mod documents;
@@ -16,7 +16,7 @@ mod lent;
 mod program;
 mod rng;
 
-use cases::{Checked, Known, RunCase, SampleCase, TapeCase};
+use cases::{Checked, Judged, Known, RunCase, SampleCase, TapeCase};
 use documents::flow::{Flow, Refusal};
 use documents::search::{Census, Pair};
 use documents::{bound, pieces, reader, sample, search};
@@ -66,6 +66,13 @@ const OF_WIDE: [(&str, &[&str]); 3] = [
     ("sample", &["a record above 9999", "a record below -9999"]),
 ];
 
+/// What must be met where exits are not steps, by document 02 (T-04). The fewest steps to an exit are those of any tapes; where a sample
+/// takes more, a search in steps goes another way. A row may be as long as the distance and shorter than the steps.
+const OF_EXITS: [(&str, &[&str]); 2] = [
+    ("report", &["a distance less than the fewest steps"]),
+    ("sample", &["more steps than exits", "more steps than the fewest", "a row shorter than the steps"]),
+];
+
 /// The pairs that must be compared in reports that are given, by document 02 (T-05): the nine pairs of positions, the three like ones in
 /// each order.
 fn of_pairs() -> impl Iterator<Item = Pair> {
@@ -83,16 +90,18 @@ fn named(&(a, b, order): &Pair) -> String {
 /// Cases by sort and outcome.
 type Counts = BTreeMap<(&'static str, String), usize>;
 
-/// Cases, those of the empty text and with wide constants among them, reports given by what they compare, and differences; the largest
-/// numbers met.
+/// Cases, those of the empty text, with wide constants and where exits are not steps among them, reports given by what they compare, and
+/// differences; flows that were searched again with idle instructions in them; the largest numbers met.
 #[derive(Default)]
 struct Tally {
     seed: u64,
     by_outcome: Counts,
     of_empty: Counts,
     of_wide: Counts,
+    of_exits: Counts,
     of_pairs: BTreeMap<Pair, usize>,
     confirmed: usize,
+    padded: usize,
     past: usize,
     configurations: usize,
     distance: u32,
@@ -114,6 +123,12 @@ impl Tally {
     fn note_wide(&mut self, sort: &'static str, outcome: &str, met: bool) {
         if met {
             *self.of_wide.entry((sort, outcome.to_string())).or_default() += 1;
+        }
+    }
+
+    fn note_exits(&mut self, sort: &'static str, outcome: &str, met: bool) {
+        if met {
+            *self.of_exits.entry((sort, outcome.to_string())).or_default() += 1;
         }
     }
 
@@ -175,8 +190,18 @@ impl Tally {
                 }
             }
         }
+        for (sort, outcomes) in OF_EXITS {
+            for outcome in outcomes {
+                if !self.of_exits.contains_key(&(sort, outcome.to_string())) {
+                    missing.push(format!("{sort} where exits are not steps: {outcome}"));
+                }
+            }
+        }
         for pair in of_pairs().filter(|pair| !self.of_pairs.contains_key(pair)) {
             missing.push(format!("report with a comparison of {}", named(&pair)));
+        }
+        if self.padded == 0 {
+            missing.push("a flow with idle instructions in it".to_string());
         }
         if self.past == 0 {
             missing.push("cells past 65,536 after a refusal".to_string());
@@ -199,10 +224,14 @@ impl Tally {
         for ((sort, outcome), count) in &self.of_wide {
             println!("{count:7} {sort} with wide constants: {outcome}");
         }
+        for ((sort, outcome), count) in &self.of_exits {
+            println!("{count:7} {sort} where exits are not steps: {outcome}");
+        }
         for (pair, count) in &self.of_pairs {
             println!("{count:7} report with a comparison of {}", named(pair));
         }
         println!("searches of our own confirmed by trial of numbers: {}", self.confirmed);
+        println!("searches of our own confirmed by the same flow with idle instructions in it: {}", self.padded);
         println!("refusals with more than 65,536 cells: {}", self.past);
         println!("generated flows have up to {} configurations, distances up to {}", self.configurations, self.distance);
     }
@@ -368,6 +397,32 @@ fn confirm(tally: &mut Tally, text: &[u8], known: &Known) {
     }
 }
 
+/// The distances of a flow again, and each none, with idle instructions in it, which add configurations only. Both are ours.
+fn confirm_padded(rng: &mut Rng, tally: &mut Tally, text: &[u8], known: &Known) {
+    let Ok((flow, Some(census))) = known else {
+        return;
+    };
+    if flow.instructions.len() == 64 || census.configurations > 1000 {
+        return;
+    }
+    let (other, numbers) = gen::padded(rng, flow.clone(), true);
+    let Ok(found) = search::census(&other, MOST) else {
+        return;
+    };
+    tally.padded += 1;
+    let moved = |row: &[Option<u32>]| numbers.iter().map(|i| row[i - 1]).collect::<Vec<_>>();
+    if (moved(&found.p), moved(&found.m)) != (census.p.clone(), census.m.clone()) || found.configurations < census.configurations {
+        let told = format!("{census:?}, and with idle instructions, numbered {numbers:?}, {found:?}: {}", other.text().escape_debug());
+        tally.differ("census of our own", &[told], text, &"");
+    }
+}
+
+/// The census in steps, if it does not take long.
+fn in_steps(known: &Known) -> Option<Census> {
+    let (flow, census) = known.as_ref().ok()?;
+    census.as_ref().filter(|c| c.configurations <= 3000).and_then(|_| search::in_steps(flow, MOST).ok())
+}
+
 /// A report in so many cells; `left` is what the last call left in them.
 fn report(rng: &mut Rng, tally: &mut Tally, left: &mut Vec<Words>, text: &[u8], known: &Known, cells: usize) {
     let mut lent = lent::cells(rng, cells, left);
@@ -379,6 +434,8 @@ fn report(rng: &mut Rng, tally: &mut Tally, left: &mut Vec<Words>, text: &[u8], 
         tally.note_wide("report", "refused 9", wide && checked.outcome == "refused 9");
         let given = census.as_ref().filter(|_| checked.outcome == "given");
         given.iter().flat_map(|c| &c.pairs).for_each(|pair| *tally.of_pairs.entry(*pair).or_default() += 1);
+        let other = given.zip(in_steps(known)).is_some_and(|(c, steps)| (&c.p, &c.m) != (&steps.p, &steps.m));
+        tally.note_exits("report", "a distance less than the fewest steps", other);
     }
     tally.note_search("report", checked, text, &"", cells);
     *left = lent.now().to_vec();
@@ -386,9 +443,15 @@ fn report(rng: &mut Rng, tally: &mut Tally, left: &mut Vec<Words>, text: &[u8], 
 
 fn sample(rng: &mut Rng, tally: &mut Tally, left: &mut Vec<Words>, text: &[u8], known: &Known, cells: usize, case: &SampleCase) {
     let mut lent = lent::cells(rng, cells, left);
-    let (checked, records) = cases::sample(rng, text, known, &mut lent, case);
-    tally.note_wide("sample", "a record above 9999", records.iter().any(|record| *record > 9999));
-    tally.note_wide("sample", "a record below -9999", records.iter().any(|record| *record < -9999));
+    let (checked, judged) = cases::sample(rng, text, known, &mut lent, case);
+    if let Some(Judged { distance, steps, records }) = judged {
+        tally.note_wide("sample", "a record above 9999", records.iter().any(|record| *record > 9999));
+        tally.note_wide("sample", "a record below -9999", records.iter().any(|record| *record < -9999));
+        tally.note_exits("sample", "more steps than exits", steps > u64::from(distance));
+        tally.note_exits("sample", "a row shorter than the steps", steps > case.row as u64);
+        let fewest = in_steps(known).and_then(|c| if case.exit { &c.p } else { &c.m }[case.instruction as usize - 1]);
+        tally.note_exits("sample", "more steps than the fewest", fewest.is_some_and(|fewest| steps > u64::from(fewest)));
+    }
     tally.note_search("sample", checked, text, case, cells);
     *left = lent.now().to_vec();
 }
@@ -438,6 +501,7 @@ type CellsFor = fn(&mut Rng, &Known) -> usize;
 fn report_and_samples(rng: &mut Rng, tally: &mut Tally, left: &mut Vec<Words>, text: &[u8], samples: usize, cells_for: CellsFor) {
     let known = known(text);
     confirm(tally, text, &known);
+    confirm_padded(rng, tally, text, &known);
     if let Ok((_, Some(census))) = &known {
         tally.configurations = tally.configurations.max(census.configurations);
         tally.distance = tally.distance.max(census.p.iter().chain(&census.m).filter_map(|d| *d).max().unwrap_or(0));

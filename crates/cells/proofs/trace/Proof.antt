@@ -1,112 +1,77 @@
--- `cells::trace` meets its contract: the field holds the way from the place where the loop stands (proofs/WayBack.antt), which is the measure.
-use mathlib.Core.Path.{_≡_, refl, _∙_}
-use mathlib.Core.List.{List, []}
-use Prim.Native.Nat.{ℕ, _≤_}
+-- `cells::trace` meets its contract: the field holds the way from the step where the loop stands (proofs/WayBack.antt), which is the measure.
+use mathlib.Core.Path.{refl, _∙_}
+use Prim.Native.Nat.{_≤_, _<_}
 use native.Mathlib.Omega.{arith}
 use borrow.Author.Needs.{needs}
 use denote.Ref.{now}
-use lib.ListN.{length, getD}
-use Rattle.cells.specs.inner.Columns.{distanceField, parentField, wayField, column}
-use Rattle.cells.specs.inner.Way.{Parents}
+use lib.ListN.{length}
+use Rattle.cells.specs.inner.Columns.{parentField}
 use Rattle.cells.proofs.Fields.{length-column}
-use Rattle.cells.proofs.WayBack.{TracingIn, parents-then, traced-first, traced-last, parent-is, traced-more, entry-below, parent-below, trace-end}
+use Rattle.cells.proofs.WayBack.{TracingIn, depth-small, trace-start, trace-before, trace-end, traced-more}
 use Rattle.cells.proofs.trace.Statement.{statement}
 use Rattle.cells.proofs.trace.Tie as tie
 
 abbrev Inv-loop : tie.InvT-loop
-Inv-loop cells₀ n at i₀ d₀ cells i d = TracingIn cells₀ cells n at d₀ i d
+Inv-loop cells₀ n at steps i₀ t₀ cells i t = TracingIn cells₀ cells at steps i t
 
 abbrev μ-loop : tie.MeasureT-loop
-μ-loop cells₀ n at i₀ d₀ cells i d = d
+μ-loop cells₀ n at steps i₀ t₀ cells i t = t
 
--- ---- the way back: the turn of the loop, its first entry, the distance read, and the start
-abbrev turn : tie.After-wide2 Inv-loop μ-loop → tie.In-loop Inv-loop μ-loop
-turn c = c .before .before .before
+-- the way back to the turn of the loop
+abbrev turn : tie.After-get-arg Inv-loop μ-loop → tie.In-loop Inv-loop μ-loop
+turn c = c .before .before .before .before
 
-abbrev begun : tie.At-loop Inv-loop μ-loop → tie.After-put Inv-loop μ-loop
-begun c = c .before .before
-
-abbrev read : tie.After-put Inv-loop μ-loop → tie.After-wide Inv-loop μ-loop
-read c = c .before .before
-
-abbrev start : tie.After-wide Inv-loop μ-loop → tie.Start Inv-loop μ-loop
-start c = c .before .before .before
-
--- the distance of the entry
-far : (c : tie.After-wide Inv-loop μ-loop) → c .wide .result ≡ getD (column distanceField (now (start c .args .cells))) (start c .args .at) 0
-far c = c .wide .ensures ∙ c .before .get .ensures
-
--- the parents, as the loop finds them
-linked : (c : tie.At-loop Inv-loop μ-loop) → let cells = begun c .put .last .0 in
-    Parents (column distanceField cells) (column parentField cells) (start (read (begun c)) .args .n)
-linked c =
-    let p = begun c in
-    let a = start (read p) in
-    parents-then _ _ _ _ _ (a .pre .0) (a .pre .1 .0) (far (read p)) (p .put .ensures)
+small : (a : tie.Start Inv-loop μ-loop) → a .args .steps ≤ a .args .at
+small a = depth-small (a .pre .0) (a .pre .1 .0) (a .pre .1 .1)
 
 -- the entries are there
-there : (c : List (List ℕ)) {n : ℕ} → Parents (column distanceField c) (column parentField c) n → n ≤ length c
-there c p = omega (arith, p .distance-room, length-column distanceField c)
+there : (a : tie.Start Inv-loop μ-loop) → a .args .at < length (now (a .args .cells))
+there a = omega (arith, a .pre .0 .room, a .pre .1 .0, length-column parentField (now (a .args .cells)))
+
+-- and the entry that comes next is one of them
+next-before : (c : tie.In-loop Inv-loop μ-loop) → c .before .loop .i ≤ c .before .before .args .at
+next-before c =
+    let a = c .before .before in
+    trace-before (c .before .loop .inv .tracing) (a .pre .0) (a .pre .1 .0) (a .pre .1 .1) (c .loop-test .taken)
 
 -- ---- the needs
-get-requires : tie.Need-get-requires Inv-loop μ-loop
-get-requires c κs =
-    let a = c .before in
-    (omega (arith, there _ (a .pre .0), a .pre .1 .0), omega arith)
-
-put-requires : tie.Need-put-requires Inv-loop μ-loop
-put-requires c κs =
-    let w = c .before in
-    (omega (arith, far w, start w .pre .1 .1), omega arith)
+add-t : tie.Need-add-t Inv-loop μ-loop
+add-t c = omega (arith, small c, c .pre .1 .0, c .pre .0 .few)
 
 loop-holds : tie.Need-loop-holds Inv-loop μ-loop
-loop-holds c =
-    let p = c .before in
-    let w = read p in
-    let a = start w in
-    record {
-      tracing = traced-first _ _ _ _ _ (a .pre .0) (a .pre .1 .0) (far w) (p .put .ensures) (omega (arith, far w, a .pre .1 .1));
-      only = λ g n. refl;
-      size = refl;
-    }
+loop-holds c = record { tracing = trace-start _ _ _ _; only = λ g n. refl; size = refl }
 
-get-requires-2 : tie.Need-get-requires-2 Inv-loop μ-loop
-get-requires-2 c κs =
-    let l = c .before .before in
-    let ps = linked l in
-    (omega (arith, there _ ps, entry-below ps (l .loop .inv .tracing), l .loop .inv .size), omega arith)
+cast-put : tie.Need-cast-put Inv-loop μ-loop
+cast-put c =
+    let a = c .before .before .before in
+    omega (arith, next-before (c .before), a .pre .1 .0, a .pre .0 .few)
 
-cast-put-2 : tie.Need-cast-put-2 Inv-loop μ-loop
-cast-put-2 c =
-    let w = c .before in
-    let l = turn w .before in
-    let ps = linked l in
-    let more = turn w .loop-test .taken in
-    omega
-    (arith, parent-below ps (l .loop .inv .tracing) more _ (parent-is _ _ [] _ ps (l .loop .inv) more (w .wide2 .ensures ∙ w .before .get2 .ensures)), ps .few)
+step-there : (c : tie.In-loop Inv-loop μ-loop) → c .before .loop .t ≤ length (c .before .loop .cells)
+step-there c =
+    let l = c .before in
+    omega (arith, l .loop .inv .tracing .below, small (l .before), there (l .before), l .loop .inv .size)
 
-put-requires-2 : tie.Need-put-requires-2 Inv-loop μ-loop
-put-requires-2 c κs =
-    let l = turn (c .before) .before in
-    let t = l .loop .inv in
-    (omega (arith, t .tracing .below, t .tracing .room, t .size, length-column wayField (begun l .put .last .0)), omega arith)
+put-requires : tie.Need-put-requires Inv-loop μ-loop
+put-requires c κs = (omega (arith, step-there (c .before), c .before .loop-test .taken), omega arith)
+
+get-requires : tie.Need-get-requires Inv-loop μ-loop
+get-requires c κs =
+    let l = turn c .before in
+    (omega (arith, next-before (turn c), there (l .before), l .loop .inv .size, c .before .before .put .kept .0), omega arith)
 
 loop-again : tie.Need-loop-again Inv-loop μ-loop
 loop-again c =
-    let p = c .before in
-    let w = p .before .before in
-    let l = turn w .before in
-    traced-more _ _ _ _ (linked l) (l .loop .inv) (turn w .loop-test .taken) (w .wide2 .ensures ∙ w .before .get2 .ensures) (p .put2 .ensures) (p .put2 .kept .0)
+    let g = c .before in
+    let k = turn (g .before) in
+    let p = g .before .before .before in
+    traced-more _ _ _ _ (k .before .loop .inv) (k .loop-test .taken) (omega (arith, step-there k, k .loop-test .taken)) (p .put .ensures) (p .put .kept .0)
+    (c .wide .ensures ∙ g .get .ensures)
 
 returns : tie.Need-returns Inv-loop μ-loop
 returns c =
     let l = c .before in
-    let p = begun l in
-    let a = start (read p) in (
-      traced-last _ _ _ _ _ (a .pre .0) (a .pre .1 .0) (far (read p)) (p .put .ensures) _
-          (trace-end (linked l) (l .loop .inv .tracing) (c .loop-test .left) _ refl),
-      λ g n. l .loop .inv .only g n ∙ p .put .ensures .other g n,
-    )
+    let a = l .before in
+    (trace-end (l .loop .inv .tracing) (a .pre .0) (a .pre .1 .0) (a .pre .1 .1) (c .loop-test .left), l .loop .inv .only)
 
 pub trace-spec : {M : Type 1} → statement M
 trace-spec =
@@ -114,17 +79,14 @@ trace-spec =
     (tie.spec
     Inv-loop
     μ-loop
+    add-t
+    loop-holds
+    (λ c. search needs)
+    cast-put
+    put-requires
     get-requires
     (λ c κs. search needs)
     (λ c. search needs)
-    put-requires
-    loop-holds
-    get-requires-2
-    (λ c κs. search needs)
-    (λ c. search needs)
-    cast-put-2
-    put-requires-2
-    (λ c. search needs)
     loop-again
-    (λ c. search needs)
+    (λ c. c .before .loop .inv .size)
     returns)

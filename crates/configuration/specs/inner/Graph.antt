@@ -1,11 +1,14 @@
 -- The graph on words of a search. Its edges: the step that reads no record; and, for a read whose tape has not ended, a step for each trial record.
+-- An edge costs what the step weighs.
 use mathlib.Core.Path.{_≡_}
 use mathlib.Core.Bool.{false}
 use mathlib.Core.Option.{Option, some}
-use Prim.Native.Nat.{ℕ, zero, suc}
+use Prim.Native.Nat.{ℕ}
 use lib.IntN.{ℤ}
+use Rattle.graph.specs.inner.Graph.{Graph}
 use Rattle.model.specs.Language.{Flow, instruction}
 use Rattle.model.specs.Machine.{Exit, p-exit}
+use Rattle.model.specs.Distance.{weight}
 use Rattle.configuration.specs.inner.Place.{atOf}
 use Rattle.configuration.specs.inner.Op.{opOf}
 use Rattle.configuration.specs.inner.Step.{nextOf, takeOf, wordExitOf, endedOf, startOf}
@@ -22,7 +25,5 @@ pub data WordEdge (w : ℕ) (op : Op) (x : Words) : Option Exit → Words → Ty
 abbrev pub opAt : (lo : ℤ) → Flow → Words → Op
 opAt lo flow x = opOf lo (instruction flow (atOf (x .place)))
 
--- words that n steps reach
-pub data WordsReached (lo : ℤ) (w : ℕ) (flow : Flow) : ℕ → Words → Type 0 where
-  begin : WordsReached lo w flow zero (startOf lo)
-  onward : {n : ℕ} {x x′ : Words} {e : Option Exit} → WordsReached lo w flow n x → WordEdge w (opAt lo flow x) x e x′ → WordsReached lo w flow (suc n) x′
+unfoldable pub wordGraph : (lo : ℤ) (w : ℕ) → Flow → Graph Words (Option Exit)
+wordGraph lo w flow = record { start = startOf lo; Edge = λ x e y. WordEdge w (opAt lo flow x) x e y; cost = weight }

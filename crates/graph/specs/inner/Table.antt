@@ -1,4 +1,4 @@
--- A table of a breadth-first search: entries by index, each a node with its distance and the entry it was first met from. It is given by
+-- A table of a search: entries by index, each a node with its distance and the entry it was first met from. It is given by
 -- functions of the index, so that rows, lists and records all make one.
 use mathlib.Core.Path.{_≡_}
 use mathlib.Core.Bool.{Bool, true}
@@ -75,12 +75,26 @@ pub record Pushed {A : Type 0} (t t′ : Table A) (y : A) (d p : ℕ) : Type 0 w
   pub dist : t′ .dist (t .count) ≡ d
   pub parent : t′ .parent (t .count) ≡ p
 
--- k entries are expanded; distances never fall along the index, and none exceeds that of entry k by more than 1
-pub record Searching {A L : Type 0} (G : Graph A L) (t : Table A) (k : ℕ) : Type 0 where
+-- the second table is t with entries added behind it; each is S, was not stored before, and has distance d and parent p
+pub data Grows {A : Type 0} (S : A → Type 0) (d p : ℕ) (t : Table A) : Table A → Type 0 where
+  none : Grows S d p t t
+  more : {t′ t″ : Table A} {y : A} → Grows S d p t t′ → S y → Fresh t′ y → Pushed t′ t″ y d p → Grows S d p t t″
+
+-- ---- a search in the order of distance, where an edge costs 0 or 1
+-- what the edges of entry i that cost nothing lead to is stored, no further than entry i
+abbrev pub Settled : {A L : Type 0} → Graph A L → Table A → ℕ → Type 0
+Settled {A} {L} G t i = (l : L) (y : A) → G .Edge (t .node i) l y → G .cost l ≡ 0 → StoredNear t y (t .dist i)
+
+-- c entries are settled, and k of them are expanded; distances never fall along the index, and none exceeds that of entry c, nor that of
+-- entry k by more than 1
+pub record Searching {A L : Type 0} (G : Graph A L) (t : Table A) (c k : ℕ) : Type 0 where
   pub sound : Sound G t
-  pub bound : k ≤ t .count
+  pub bound : k ≤ c
+  pub within : c ≤ t .count
   pub sorted : Sorted (t .dist) (t .count)
+  pub last : c < t .count → (i : ℕ) → i < t .count → t .dist i ≤ t .dist c
   pub level : k < t .count → (i : ℕ) → i < t .count → t .dist i ≤ t .dist k + 1
+  pub settled : (i : ℕ) → i < c → Settled G t i
   pub closed : Closed G t k
 
 -- no entry before k takes

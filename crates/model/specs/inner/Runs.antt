@@ -7,6 +7,7 @@ use lib.IntN.{ℤ}
 use lib.ListN.{replicate, length}
 use Rattle.model.specs.Language.{Flow}
 use Rattle.model.specs.Machine.{State, run}
+use Rattle.model.specs.Distance.{exitsTaken}
 use Rattle.model.specs.Sample.{Near}
 use Rattle.model.specs.inner.Lists.{All}
 use Rattle.model.specs.Pattern.{pattern}
@@ -27,18 +28,20 @@ abbrev pub records : List (List ℤ) → ℕ
 records [] = 0
 records (t ∷ ts) = length t + records ts
 
--- after n steps, r of which read a record, the run stands at instruction k with the values v and the ends e, and has read all of its tapes
-pub record RunStands (lo hi : ℤ) (flow : Flow) (n r : ℕ) (tapes : List (List ℤ)) (k : ℕ) (v : List ℤ) (e : List Bool) : Type 0 where
+-- after n steps, of which d take an exit and r read a record, the run stands at instruction k with the values v and the ends e, and has read all
+-- of its tapes
+pub record RunStands (lo hi : ℤ) (flow : Flow) (n d r : ℕ) (tapes : List (List ℤ)) (k : ℕ) (v : List ℤ) (e : List Bool) : Type 0 where
   pub count : length tapes ≡ flow .tapes
   pub is : run flow tapes n ≡ resting flow k v e
   pub near : All (All (Near lo hi r)) tapes
   pub values-near : All (Near lo hi r) v
   pub total : records tapes ≡ r
-  pub few : r ≤ n
+  pub exits : exitsTaken flow tapes n ≡ d
+  pub few : r ≤ d
 
--- after n steps, r of which read a record, the run on the tapes stands at c with the values v
-pub record Follows (lo hi : ℤ) (flow : Flow) (n r : ℕ) (tapes : List (List ℤ)) (v : List ℤ) (c : Configuration) : Type 0 where
-  pub stands : RunStands lo hi flow n r tapes (c .next) v (c .ended)
+-- after n steps, of which d take an exit and r read a record, the run on the tapes stands at c with the values v
+pub record Follows (lo hi : ℤ) (flow : Flow) (n d r : ℕ) (tapes : List (List ℤ)) (v : List ℤ) (c : Configuration) : Type 0 where
+  pub stands : RunStands lo hi flow n d r tapes (c .next) v (c .ended)
   pub marks : pattern lo hi v ≡ c .marks
 
 -- a flow with so many tapes and variables

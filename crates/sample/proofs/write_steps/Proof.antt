@@ -16,7 +16,7 @@ use Rattle.search_table.specs.inner.Passes.{Stands, blank}
 use Rattle.sample_row.specs.inner.Reading.{firstWalk}
 use Rattle.sample.specs.inner.Sampling.{Course, courseIn, opAlong, CourseLeads, Roomy, Following}
 use Rattle.sample.proofs.Numbers as numbers
-use Rattle.sample.proofs.Counts.{op-by-words}
+use Rattle.sample.proofs.Counts.{op-by-words, along-few}
 use Rattle.sample.proofs.Stepping.{following-first, loop-asks, loop-follows}
 use Rattle.sample.proofs.write_steps.Statement.{statement}
 use Rattle.sample.proofs.write_steps.Tie as tie
@@ -71,7 +71,11 @@ module _ (c : tie.After-op Inv-loop μ-loop) where
 
 -- ---- the needs
 first-walk-requires : tie.Need-first-walk-requires Inv-loop μ-loop
-first-walk-requires c κs = let b = c .before in let few = b .pre .1 .0 .1 .passable .few in omega (arith, b .pre .1 .1 .few)
+first-walk-requires c κs =
+    let b = c .before in
+    let q = b .pre .1 .0 .1 in
+    let few = q .passable .few in
+    omega (arith, b .pre .1 .1 .few, along-few q (b .args .steps) (omega arith))
 
 loop-holds : tie.Need-loop-holds Inv-loop μ-loop
 loop-holds c =

@@ -10,7 +10,7 @@ use lib.Signed.{leZ}
 use lib.Dec.{T}
 use Rattle.model.specs.Language.{Flow, instruction, hasExits, C1, C2}
 use Rattle.model.specs.Machine.{Exit, exitIf}
-use Rattle.model.specs.Distance.{Distance}
+use Rattle.model.specs.Distance.{weight, Distance}
 use Rattle.model.specs.Tapes.{total}
 use Rattle.model.specs.inner.Runs.{Follows, wider}
 use Rattle.flow.specs.Limits.{maxTapes, maxVariables, leastConstant, greatestConstant}
@@ -22,7 +22,7 @@ use Rattle.configuration.specs.inner.Graph.{WordEdge, opAt}
 use Rattle.configuration.specs.declared.Words.{Words}
 use Rattle.configuration.specs.declared.Op.{Op}
 use Rattle.configuration.specs.inner.Fits.{FlowFits, ProperWords}
-use Rattle.cells.specs.inner.Columns.{placeField, patternField, wayField, column, wordColumn}
+use Rattle.cells.specs.inner.Columns.{placeField, patternField, distanceField, wayField, column, wordColumn}
 use Rattle.cells.specs.inner.Entries.{Entries}
 use Rattle.cells.specs.inner.Way.{Parents}
 use Rattle.cells.specs.declared.Found.{Found}
@@ -38,6 +38,7 @@ use Rattle.sample.specs.Written.{Written}
 pub record Course : Type 0 where
   pub places : List ℕ
   pub patterns : List ℕ
+  pub distances : List ℕ
   pub path : List ℕ
   pub steps : ℕ
   pub ops : List Op
@@ -45,13 +46,13 @@ pub record Course : Type 0 where
   pub lo : ℤ
   pub hi : ℤ
 
-abbrev pub course : (places patterns path : List ℕ) (steps : ℕ) (ops : List Op) (w : ℕ) (lo hi : ℤ) → Course
-course places patterns path steps ops w lo hi =
-    record { places = places; patterns = patterns; path = path; steps = steps; ops = ops; w = w; lo = lo; hi = hi }
+abbrev pub course : (places patterns distances path : List ℕ) (steps : ℕ) (ops : List Op) (w : ℕ) (lo hi : ℤ) → Course
+course places patterns distances path steps ops w lo hi =
+    record { places = places; patterns = patterns; distances = distances; path = path; steps = steps; ops = ops; w = w; lo = lo; hi = hi }
 
 -- the way that the cells hold
 abbrev pub courseIn : (c : List (List ℕ)) (steps : ℕ) (ops : List Op) (w : ℕ) (lo hi : ℤ) → Course
-courseIn c = course (wordColumn placeField c) (wordColumn patternField c) (column wayField c)
+courseIn c = course (wordColumn placeField c) (wordColumn patternField c) (column distanceField c) (column wayField c)
 
 -- the words at place t of the way, the instruction of step t, and how many records of each tape the first t steps take
 abbrev pub wordsAlong : Course → ℕ → Words
@@ -67,7 +68,11 @@ readsAlong k t = readsOn (k .ops) (k .places) (k .path) t
 abbrev pub sizesAlong : Course → (exit : Bool) → List ℕ
 sizesAlong k exit = countedOf (readsAlong k (k .steps)) (opAlong k (k .steps)) exit
 
--- the way leads from the flow's start by edges of the graph on words
+-- the exits up to place t of the way: the distance of its entry
+abbrev pub exitsAlong : Course → ℕ → ℕ
+exitsAlong k t = getD (k .distances) (getD (k .path) t 0) 0
+
+-- the way leads from the flow's start by edges of the graph on words, and its distances count their exits
 pub record CourseLeads (k : Course) (flow : Flow) : Type 0 where
   pub fit : FlowFits (k .lo) (k .hi) (k .w) flow
   pub low : T (leZ leastConstant (k .lo))
@@ -76,8 +81,10 @@ pub record CourseLeads (k : Course) (flow : Flow) : Type 0 where
   pub passable : Passable (k .places) (k .path) (k .steps)
   pub patterned : (t : ℕ) → t ≤ k .steps → getD (k .path) t 0 < length (k .patterns)
   pub starts : wordsAlong k 0 ≡ startOf (k .lo)
+  pub near : exitsAlong k 0 ≡ 0
   pub edge : (t : ℕ) → t < k .steps
       → (e : Option Exit) × WordEdge (k .w) (opAt (k .lo) flow (wordsAlong k t)) (wordsAlong k t) e (wordsAlong k (t + 1))
+      × (exitsAlong k (t + 1) ≡ exitsAlong k t + weight e)
 
 -- the instruction at its end
 abbrev pub endOf : Course → ℕ
@@ -86,13 +93,13 @@ endOf k = atOf (placeOn (k .places) (k .path) (k .steps))
 -- and there the wanted exit can be taken, at its distance
 pub record Ends (k : Course) (flow : Flow) (exit : Bool) : Type 0 where
   pub takes : takesOf (k .w) (opAt (k .lo) flow (wordsAlong k (k .steps))) (wordsAlong k (k .steps)) (exitIf exit) ≡ true
-  pub distance : Distance flow (endOf k) (exitIf exit) (suc (k .steps))
+  pub distance : Distance flow (endOf k) (exitIf exit) (suc (exitsAlong k (k .steps)))
 
 -- sizes of the three tapes' parts that leave room for the records of the way
 pub record Roomy (k : Course) (sizes : List ℕ) (cells : ℕ) : Type 0 where
   pub three : length sizes ≡ maxTapes
   pub room : (a : ℕ) → getD (readsAlong k (k .steps)) a 0 ≤ getD sizes a 0
-  pub few : total sizes ≤ suc (k .steps)
+  pub few : total sizes ≤ suc (exitsAlong k (k .steps))
   pub long : total sizes ≤ cells
 
 -- after t steps: the run on the tapes written so far, with four variables and three tapes, stands at the words of the way
@@ -100,7 +107,7 @@ pub record Following (k : Course) (flow : Flow) (sizes : List ℕ) (old : List �
   pub laid : WalkFits (k .lo) (k .hi) sizes walk row
   pub counts : walk .counts ≡ readsAlong k t
   pub reads : ℕ
-  pub follows : Follows (k .lo) (k .hi) (wider maxTapes maxVariables flow) t reads (tapesWritten walk row) (walk .values)
+  pub follows : Follows (k .lo) (k .hi) (wider maxTapes maxVariables flow) t (exitsAlong k t) reads (tapesWritten walk row) (walk .values)
       (configurationOf (k .lo) (k .w) (wider maxTapes maxVariables flow) (wordsAlong k t))
   pub proper : ProperWords (k .lo) (k .w) (wider maxTapes maxVariables flow) (wordsAlong k t)
   pub size : length row ≡ length old
@@ -108,7 +115,7 @@ pub record Following (k : Course) (flow : Flow) (sizes : List ℕ) (old : List �
 
 -- the row holds a sample for the exit at the end of the way
 abbrev pub WrittenBy : Course → Flow → (exit : Bool) (old row : List ℤ) (lengths : List ℕ) → Type 0
-WrittenBy k flow exit old row lengths = Written (k .lo) (k .hi) flow (endOf k) (exitIf exit) (suc (k .steps)) old row lengths
+WrittenBy k flow exit old row lengths = Written (k .lo) (k .hi) flow (endOf k) (exitIf exit) (suc (exitsAlong k (k .steps))) old row lengths
 
 -- ---- the table that a way is taken from
 -- a finished table of n entries of a flow, with its instructions prepared, C1 and C2, and room for the way to an entry; instruction i has two
@@ -120,7 +127,7 @@ pub record Tabled (flow : Flow) (e : Entries) (n room : ℕ) (ops : List Op) (w 
   pub high : hi ≡ C2 flow
   pub prepared : Prepared (C1 flow) flow ops
   pub complete : Complete (C1 flow) w flow e n
-  pub parents : Parents (e .distances) (e .parents) n
+  pub parents : Parents (e .parents) n
   pub walkable : Walkable (e .places) (e .patterns) (e .distances) n
   pub path-room : n ≤ room
   pub wanted : hasExits (instruction flow i) ≡ true

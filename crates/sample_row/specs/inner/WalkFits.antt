@@ -1,5 +1,5 @@
 -- What every step of a walk keeps: each tape has its part of the row, and the records stay in their range (document 01: each lies
--- between C1 less the distance and C2 plus the distance). A step reads one record at most, so there are no more reads than steps.
+-- between C1 less the distance and C2 plus the distance). A step that reads a record takes an exit, so there are no more reads than exits.
 use mathlib.Core.Path.{_≡_}
 use mathlib.Core.List.{List}
 use Prim.Native.Nat.{ℕ, _≤_}

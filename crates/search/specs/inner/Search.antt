@@ -1,18 +1,26 @@
 -- What a search promises: it stores all configurations that a flow reaches, or says that they outnumber the cells.
+use mathlib.Core.Path.{_≡_}
 use mathlib.Core.List.{List}
+use mathlib.Core.Option.{Option}
 use Prim.Native.Nat.{ℕ, _+_, _≤_}
 use lib.IntN.{ℤ}
 use Rattle.graph.specs.Lists.{MoreThan}
 use Rattle.graph.specs.inner.Graph.{Reached}
 use Rattle.graph.specs.inner.Table.{Searching}
 use Rattle.model.specs.Language.{Flow}
+use Rattle.model.specs.Machine.{Exit}
+use Rattle.model.specs.Distance.{weight}
+use Rattle.configuration.specs.declared.Words.{Words}
 use Rattle.configuration.specs.declared.Op.{Op}
+use Rattle.configuration.specs.declared.Action.{Action}
+use Rattle.configuration.specs.declared.Action.the-variants.{Read, Assign, Test, Go, Stop}
+use Rattle.configuration.specs.inner.Graph.{WordEdge, wordGraph}
 use Rattle.configuration.specs.inner.Fits.{FlowFits}
 use Rattle.cells.specs.inner.Columns.{Rows}
 use Rattle.cells.specs.inner.Entries.{entriesOf, Filled, distanceOf}
 use Rattle.search_table.specs.inner.Passes.{Prepared}
-use Rattle.search_table.specs.inner.Table.{wordGraph, wordsAt, tableOf, Complete}
-use Rattle.search_visit.specs.inner.Fan.{SearchReady, LeadsTo, GrownIs}
+use Rattle.search_table.specs.inner.Table.{wordsAt, tableOf, Complete}
+use Rattle.search_visit.specs.inner.Fan.{SearchReady, GrownIs}
 use Rattle.search_visit.specs.declared.Grown.{Grown}
 use Rattle.search.specs.declared.Searched.{Searched}
 use Rattle.search.specs.declared.Searched.the-variants.{Done, Full}
@@ -25,16 +33,33 @@ pub record Subject (w : ℕ) (ops : List Op) : Type 0 where
   pub fit : FlowFits lo hi w flow
   pub prepared : Prepared lo flow ops
 
--- entry k is expanded: all that an edge leads to is stored
-abbrev pub ExpandedIs : (w : ℕ) → Op → (r r′ : Rows) (count cells k : ℕ) → Grown → Type 0
-ExpandedIs w op r r′ count cells k g =
-    let x = wordsAt (entriesOf r) k in
-    GrownIs (LeadsTo w op x) (LeadsTo w op x) w r r′ count cells (distanceOf (entriesOf r) k + 1) k g
+-- ---- what an entry leads to
+-- what the steps of an instruction weigh
+abbrev pub weightBy : Action → ℕ
+weightBy Read = 1
+weightBy Assign = 0
+weightBy Test = 1
+weightBy Go = 0
+weightBy Stop = 0
 
--- the search of a flow with k entries expanded
-pub record Exploring (lo : ℤ) (w : ℕ) (flow : Flow) (r : Rows) (count cells k : ℕ) : Type 0 where
+unfoldable pub weightOf : Op → ℕ
+weightOf op = weightBy (op .action)
+
+-- an edge of x that costs so much leads to y
+abbrev pub LeadsAt : (w : ℕ) → Op → (cost : ℕ) (x y : Words) → Type 0
+LeadsAt w op cost x y = (e : Option Exit) × WordEdge w op x e y × (weight e ≡ cost)
+
+-- entry i is expanded along its edges that cost so much: all that they lead to is stored
+abbrev pub ExpandedIs : (w : ℕ) → Op → (r r′ : Rows) (count cells i cost : ℕ) → Grown → Type 0
+ExpandedIs w op r r′ count cells i cost g =
+    let x = wordsAt (entriesOf r) i in
+    GrownIs (LeadsAt w op cost x) (LeadsAt w op cost x) w r r′ count cells (distanceOf (entriesOf r) i + cost) i g
+
+-- ---- the search
+-- the search of a flow with c entries settled and k of them expanded
+pub record Exploring (lo : ℤ) (w : ℕ) (flow : Flow) (r : Rows) (count cells c k : ℕ) : Type 0 where
   pub ready : SearchReady w r count cells
-  pub searching : Searching (wordGraph lo w flow) (tableOf (entriesOf r) count) k
+  pub searching : Searching (wordGraph lo w flow) (tableOf (entriesOf r) count) c k
 
 -- the first n of the cells hold all configurations that are reached
 pub record Finished (lo : ℤ) (w : ℕ) (flow : Flow) (r : Rows) (cells n : ℕ) : Type 0 where

@@ -1,21 +1,13 @@
--- The table of configurations in the work cells, and the graph on words that it is a table of.
-use mathlib.Core.Option.{Option}
+-- The table of configurations in the work cells.
 use Prim.Native.Nat.{ℕ}
 use lib.IntN.{ℤ}
 use lib.ListN.{getD}
-use Rattle.graph.specs.inner.Graph.{Graph}
 use Rattle.graph.specs.inner.Table.{Table, Sound, Closed, Sorted}
 use Rattle.model.specs.Language.{Flow}
-use Rattle.model.specs.Machine.{Exit}
 use Rattle.configuration.specs.inner.Place.{words}
-use Rattle.configuration.specs.inner.Step.{startOf}
-use Rattle.configuration.specs.inner.Graph.{WordEdge, opAt}
+use Rattle.configuration.specs.inner.Graph.{wordGraph}
 use Rattle.configuration.specs.declared.Words.{Words}
 use Rattle.cells.specs.inner.Entries.{Entries, distanceOf, parentOf}
-
--- each edge costs 1
-unfoldable pub wordGraph : (lo : ℤ) (w : ℕ) → Flow → Graph Words (Option Exit)
-wordGraph lo w flow = record { start = startOf lo; Edge = λ x e y. WordEdge w (opAt lo flow x) x e y; cost = λ e. 1 }
 
 -- the words of entry i
 abbrev pub wordsAt : Entries → ℕ → Words

@@ -10,12 +10,7 @@ use Rattle.search_visit.specs.declared.Visited.{Visited}
 use Rattle.search_visit.specs.declared.Visited.the-variants.{At, Full}
 use Rattle.search_visit.specs.declared.Grown.{Grown}
 use Rattle.search_visit.specs.declared.Grown.the-variants.{To, Full as Full′}
-use Rattle.graph.specs.inner.Table.{Table, Held, Fresh, Pushed}
-
--- the second table is t with entries added behind it; each is S, was not stored before, and has distance d and parent k
-pub data Grows (S : Words → Type 0) (d k : ℕ) (t : Table Words) : Table Words → Type 0 where
-  none : Grows S d k t t
-  more : {t′ t″ : Table Words} {y : Words} → Grows S d k t t′ → S y → Fresh t′ y → Pushed t′ t″ y d k → Grows S d k t t″
+use Rattle.graph.specs.inner.Table.{Table, Held, Fresh, Grows}
 
 -- the cells are full, and some words that are S are not stored
 pub record Outgrown (S : Words → Type 0) (d k : ℕ) (t : Table Words) (cells : ℕ) : Type 0 where

@@ -51,6 +51,20 @@ impl Instruction {
         }
     }
 
+    /// Names other instructions: each that it names, p first, is replaced by what is said for it.
+    pub fn redirect(&mut self, mut other: impl FnMut(usize) -> usize) {
+        match self {
+            Instruction::Put { n, .. } | Instruction::Copy { n, .. } | Instruction::Set { n, .. } | Instruction::Nop { n } => {
+                *n = other(*n)
+            }
+            Instruction::Read { p, m, .. }
+            | Instruction::Less { p, m, .. }
+            | Instruction::Over { p, m, .. }
+            | Instruction::Under { p, m, .. } => (*p, *m) = (other(*p), other(*m)),
+            Instruction::Stop => {}
+        }
+    }
+
     /// The constant that stands in it.
     pub fn constant(&self) -> Option<i64> {
         match *self {

@@ -1,13 +1,13 @@
 //! The test pieces of document 01 ("Test pieces"), cases `-0` and 1001 as document 02 (T-02, T-09) has them, flow A ("The report"), and of
-//! document 02 the bounds (T-01), the nine pairs (T-05), the empty text (T-08) and the constants up to 9999 (T-09).
+//! document 02 the bounds (T-01), distances in exits (T-04), the nine pairs (T-05), the empty text (T-08) and the constants up to 9999 (T-09).
 
 use super::bound::{bound, exact, line, patterns, patterns_listed};
 use super::flow::{Flow, Instruction, Refusal};
 use super::interpreter::{run, End, Ran};
 use super::reader::read;
 use super::report::lines;
-use super::sample::{faults, part, wanted};
-use super::search::{by_numbers, census, Census};
+use super::sample::{faults, part, up_to, wanted};
+use super::search::{by_numbers, census, in_steps, Census};
 
 const FLOW_A: &str = "flow,1,0,1\n1,read,1,1,2,3\n2,over,5,1,1,3\n3,stop\n";
 const REPORT_A: &str = "report,3,19\n1,p,1\n1,m,1\n2,p,2\n2,m,2\n";
@@ -329,7 +329,7 @@ fn wide_reports() {
         // Only a record below -9998 leads back: 3, 10,001 and 2, 10,000 and 1.
         ("flow,1,0,1\n1,read,1,1,2,2\n2,under,1,-9998,1,3\n3,stop\n", 20_007, "1,p,1\n1,m,1\n2,p,2\n2,m,2\n"),
         ("flow,1,0,1\n1,under,1,-9999,2,2\n2,stop\n", 2, "1,p,none\n1,m,1\n"),
-        ("flow,1,0,1\n1,set,-9999,1,2\n2,under,1,-9999,3,3\n3,over,9999,1,4,4\n4,stop\n", 4, "2,p,none\n2,m,2\n3,p,none\n3,m,3\n"),
+        ("flow,1,0,1\n1,set,-9999,1,2\n2,under,1,-9999,3,3\n3,over,9999,1,4,4\n4,stop\n", 4, "2,p,none\n2,m,1\n3,p,none\n3,m,2\n"),
         // No whole number between 9998 and 9999: 1, 10,002, 2, none, 10,002 and 1.
         (
             "flow,1,0,1\n1,read,1,1,2,5\n2,over,9998,1,3,5\n3,under,1,9999,4,5\n4,nop,5\n5,stop\n",
@@ -361,7 +361,7 @@ fn wide_reports() {
             "flow,1,0,4\n1,set,9999,1,2\n2,set,-9999,2,3\n3,set,9998,3,4\n4,copy,1,4,5\n5,less,2,3,6,6\n6,less,3,4,7,7\n7,less,4,1,8,8\n\
              8,stop\n",
             8,
-            "5,p,5\n5,m,none\n6,p,6\n6,m,none\n7,p,none\n7,m,7\n",
+            "5,p,1\n5,m,none\n6,p,2\n6,m,none\n7,p,none\n7,m,3\n",
         ),
     ] {
         let report = format!("report,{},{configurations}\n{distances}", flow(text).instructions.len());
@@ -373,6 +373,76 @@ fn wide_reports() {
     // Two tapes again, one instruction more: 1, 10,003, twice 30,007.
     let many = b"flow,2,0,1\n1,read,1,1,2,2\n2,read,2,1,3,3\n3,under,1,-9999,4,4\n4,stop\n";
     assert_eq!(lines(many, usize::MAX), "refused,9,0\n");
+}
+
+/// Instruction 6 is met by two records, with three exits and six steps, or at the end of the tape, with four exits and four steps.
+const FEWER: &str = "flow,1,0,1\n1,read,1,1,2,8\n2,nop,3\n3,nop,4\n4,read,1,1,5,7\n5,nop,6\n6,less,1,1,7,7\n7,stop\n\
+    8,less,1,1,7,9\n9,less,1,1,7,6\n";
+
+/// Distances in exits, and the configurations, which count as before.
+fn exits() {
+    let nops = |count: usize, last: &str| {
+        let lines = (1..=count).map(|i| format!("{},nop,{}\n", i + 1, i + 2)).collect::<String>();
+        format!("flow,1,0,1\n1,read,1,1,2,2\n{lines}{},{last}\n", count + 2)
+    };
+    for (text, report) in [
+        // The read's distance is 2 no more: 1, 1, 3 and 1.
+        ("flow,1,0,1\n1,nop,2\n2,read,1,1,3,3\n3,stop\n".to_string(), "report,3,6\n2,p,1\n2,m,1\n"),
+        // Each instruction that adds nothing, and then a comparison of 4 with 4, and one that holds.
+        (
+            "flow,1,1,2\n1,put,1,1,2\n2,set,4,1,3\n3,copy,1,2,4\n4,nop,5\n5,less,1,2,6,6\n6,put,2,1,7\n7,over,3,2,8,8\n8,stop\n"
+                .to_string(),
+            "report,8,8\n5,p,none\n5,m,1\n7,p,2\n7,m,none\n",
+        ),
+        // Flow A with `nop` before it and behind every exit: 1, 2, 2, 8, 8, 1, 7, 9.
+        (
+            "flow,1,0,1\n1,nop,2\n2,read,1,1,4,3\n3,nop,8\n4,nop,5\n5,over,5,1,6,7\n6,nop,2\n7,nop,8\n8,stop\n".to_string(),
+            "report,8,38\n2,p,1\n2,m,1\n5,p,2\n5,m,2\n",
+        ),
+        // 1; 3 at 2, 3, 4 and 5; 3 and 1; 3 and 3; 1, 1.
+        (FEWER.to_string(), "report,9,25\n1,p,1\n1,m,1\n4,p,2\n4,m,2\n6,p,none\n6,m,3\n8,p,none\n8,m,2\n9,p,none\n9,m,3\n"),
+        // 62 between two reads: 3 and, after the end, 3, at each of 64.
+        (nops(62, "read,1,1,1,1"), "report,64,384\n1,p,1\n1,m,1\n64,p,2\n64,m,2\n"),
+        // The same to itself at the end: 1, and 3 and 1 at each of 63.
+        (nops(62, "nop,64"), "report,64,253\n1,p,1\n1,m,1\n"),
+        ("flow,1,0,1\n1,nop,1\n2,read,1,1,1,1\n".to_string(), "report,2,1\n2,p,none\n2,m,none\n"),
+        // Four times round, until the 1 has come to variable 4: 4 at each of five, and 1.
+        (
+            "flow,1,0,4\n1,copy,3,4,2\n2,copy,2,3,3\n3,copy,1,2,4\n4,set,1,1,5\n5,over,0,4,6,1\n6,stop\n".to_string(),
+            "report,6,21\n5,p,4\n5,m,1\n",
+        ),
+    ] {
+        assert_eq!(lines(text.as_bytes(), 4096), report, "{text}");
+        let flow = flow(&text);
+        let found = census(&flow, 4096).expect("few configurations");
+        assert_eq!(by_numbers(&flow, 2), found, "{text}");
+    }
+
+    let fewer = flow(FEWER);
+    let found = census(&fewer, 4096).expect("few configurations");
+    let steps = in_steps(&fewer, 4096).expect("few configurations");
+    assert_eq!((found.m[5], steps.m[5], found.configurations == steps.configurations), (Some(3), Some(4), true));
+    assert_eq!(wanted(&fewer, 6, false, Ok(&found), 3), Ok(Some(3)));
+    assert_eq!(wanted(&fewer, 6, false, Ok(&found), 2), Err(Refusal { number: 10, place: 0 }));
+    for row in [[0, 0, 9], [3, -3, 9]] {
+        assert!(faults(&fewer, 6, false, 3, &row, &[2]).is_empty());
+        let ran = up_to(&fewer, 6, false, 3, &row[..2], &[2]).expect("the exit is taken");
+        assert_eq!((ran.steps, ran.p[0], ran.p[3], ran.m[5]), (6, 1, 1, 1));
+    }
+    for (d, row, length) in [
+        // At the end of the tape, with four exits.
+        (3, &[0, 0, 0][..], 0),
+        // A record that is not read, and one too few, with which the exit is not taken.
+        (3, &[0, 0, 0], 3),
+        (3, &[0, 0, 0], 1),
+        // Four from 0, and as many as there are steps.
+        (3, &[4, 0, 0], 2),
+        (3, &[0, -4, 0], 2),
+        (6, &[0, 0, 0, 0, 0, 0], 2),
+        (3, &[0, 0], 2),
+    ] {
+        assert_eq!(faults(&fewer, 6, false, d, row, &[length]).len(), 1, "{d}, {row:?}, {length}");
+    }
 }
 
 /// The pattern numbers of T-01 by listing, for C1 and C2 at several places around 0.
@@ -549,6 +619,7 @@ pub fn check() {
     constants();
     about_empty();
     reports();
+    exits();
     nine();
     wide_reports();
     pattern_numbers();

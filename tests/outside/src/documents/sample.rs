@@ -1,7 +1,8 @@
-//! A sample for one exit: document 01, "Distances and configurations" and the rows 11, 9 and 10 of its table of refusals.
+//! A sample for one exit: document 01, "Distances and configurations" and the rows 11, 9 and 10 of its table of refusals, with distances in
+//! exits (document 02, T-04).
 
 use super::flow::{Flow, Instruction, Refusal};
-use super::interpreter::run;
+use super::interpreter::{run, Ran};
 use super::search::Census;
 
 /// What the wish for a sample of a legal flow comes to, in a row of `row` cells: a refusal, None for none, or the distance of the
@@ -18,7 +19,28 @@ pub fn wanted(flow: &Flow, instruction: u64, exit_p: bool, census: Result<&Censu
     }
 }
 
-/// What tapes handed out in a row as a sample of distance `d` break of what document 01 says of one; empty if nothing. Lengths
+/// The run of tapes up to and with the first taking of an exit, if it takes it within `d` exits or soon after. From one exit to the next a
+/// run that goes on to it comes by each instruction once at most, so as many steps as there are instructions are enough for each exit.
+pub fn up_to(flow: &Flow, instruction: u64, exit_p: bool, d: u32, records: &[i32], lengths: &[usize]) -> Option<Ran> {
+    let index = instruction as usize - 1;
+    let after = |limit: u64| run(flow, limit, records, lengths, usize::MAX).ok();
+    let taken = |ran: &Ran| if exit_p { ran.p[index] > 0 } else { ran.m[index] > 0 };
+    let mut most = flow.instructions.len() as u64 * u64::from(d);
+    after(most).filter(&taken)?;
+    // The least limit with which it is taken: not `least`, and `most` is enough.
+    let mut least = 0;
+    while most - least > 1 {
+        let middle = (least + most) / 2;
+        if after(middle).is_some_and(|ran| taken(&ran)) {
+            most = middle;
+        } else {
+            least = middle;
+        }
+    }
+    after(most)
+}
+
+/// What tapes handed out in a row as a sample of distance `d` break of what documents 01 and 02 say of one; empty if nothing. Lengths
 /// past the T-th are borne if they are 0. That no tapes take the exit earlier than `d` is for the search to say.
 pub fn faults(flow: &Flow, instruction: u64, exit_p: bool, d: u32, row: &[i32], lengths: &[u64]) -> Vec<String> {
     if !flow.has_exits(instruction) {
@@ -43,23 +65,19 @@ pub fn faults(flow: &Flow, instruction: u64, exit_p: bool, d: u32, row: &[i32], 
     for record in records.iter().filter(|&&record| !between.contains(&i64::from(record))) {
         found.push(format!("record {record} lies outside {between:?}"));
     }
-    let taken = |limit: u64| run(flow, limit, records, &lengths, usize::MAX);
-    let (Ok(before), Ok(after)) = (taken(u64::from(d).saturating_sub(1)), taken(u64::from(d))) else {
-        return vec!["the tapes are turned back".to_string()];
+    let Some(ran) = up_to(flow, instruction, exit_p, d, records, &lengths) else {
+        found.push(format!("the exit is not taken by exit {d}"));
+        return found;
     };
-    let index = instruction as usize - 1;
-    let times = |counts: (&[u32], &[u32])| if exit_p { counts.0[index] } else { counts.1[index] };
-    if times((&before.p, &before.m)) != 0 {
-        found.push(format!("the exit is taken before step {d}"));
-    }
-    if times((&after.p, &after.m)) == 0 {
-        found.push(format!("the exit is not taken by step {d}"));
+    let exits: u32 = ran.p.iter().chain(&ran.m).sum();
+    if exits != d {
+        found.push(format!("the exit is taken as exit {exits}, not as exit {d}"));
     }
     for (tape, &length) in (1..).zip(&lengths) {
         let reads_it = |i: &Instruction| matches!(*i, Instruction::Read { tape: of, .. } if of == tape);
-        let read: usize = flow.instructions.iter().zip(&after.p).filter(|(i, _)| reads_it(i)).map(|(_, &times)| times as usize).sum();
+        let read: usize = flow.instructions.iter().zip(&ran.p).filter(|(i, _)| reads_it(i)).map(|(_, &times)| times as usize).sum();
         if read != length {
-            found.push(format!("tape {tape} holds {length} records, of which {read} are read by step {d}"));
+            found.push(format!("tape {tape} holds {length} records, of which {read} are read up to there"));
         }
     }
     found
