@@ -127,7 +127,8 @@ uint32_t tilsando_report(const uint8_t *text, size_t text_len,
 #define TILSANDO_SAMPLE_SIZE 5
 
 /* Writes a sample for one exit: tapes whose run takes it as exit number d, d being its distance, and which hold only the records read up to
- * there. To run a sample, pass the T lengths, and their sum as records_len; a limit of TILSANDO_CELLS steps is enough for it to take the exit.
+ * there. To run a sample, pass the T lengths, and their sum as records_len; it takes the exit with a limit of TILSANDO_CELLS steps, if numbers
+ * and values have TILSANDO_CELLS elements each, so that no put is without room before.
  *   instruction     the number of the instruction, counted from 1
  *   exit            0 for exit m, any other value for exit p
  *   row             gets the records of the tapes, tape 1 first, one after another. It needs as many elements as the distance. Elements

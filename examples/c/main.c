@@ -36,7 +36,7 @@ static void try_exit(size_t n, uint64_t i, char exit) {
             printf(k ? ",%" PRId32 : "%" PRId32, row[part[TILSANDO_TAPE_START] + k]);
         putchar(')');
     }
-    /* a sample takes its exit within as many steps as there are configurations, and so within as many as there can be cells */
+    /* a sample takes its exit within as many steps as there are configurations, and so within as many as there can be cells, and with no more puts */
     why = tilsando_run(text, n, CELLS, row, total, lengths, tapes, numbers, CELLS, values, CELLS, taken_p, EACH, taken_m, EACH, answer,
         TILSANDO_RUN_SIZE);
     puts(!why && (exit == 'p' ? taken_p : taken_m)[i - 1] ? ",taken" : ",NOT TAKEN");

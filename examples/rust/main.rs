@@ -38,7 +38,7 @@ fn try_exit(cells: &mut [Cell], text: &[u8], i: usize, exit: char) -> String {
         told += &format!("({})", records.iter().map(i32::to_string).collect::<Vec<_>>().join(","));
     }
     let (mut numbers, mut values, mut p, mut m) = ([0; CELLS], [0; CELLS], [0; EACH], [0; EACH]);
-    // a sample takes its exit within as many steps as there are configurations, and so within as many as there can be cells
+    // a sample takes its exit within as many steps as there are configurations, and so within as many as there can be cells, and with no more puts
     let why = unsafe { tilsando_run(text.as_ptr(), text.len(), CELLS as u64, &row, total, lengths.as_ptr(), lengths.len(), &mut numbers, CELLS,
         &mut values, CELLS, &mut p, EACH, &mut m, EACH, &mut ran, 3) };
     let taken = why == 0 && if exit == 'p' { p } else { m }[i - 1] > 0;

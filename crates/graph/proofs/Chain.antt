@@ -1,6 +1,6 @@
 -- The chain of parents from an entry back to the start, written into a row from its end: place `last` holds the entry, the place before it
--- its parent, and so on down to place d. Where every edge costs 1, an entry at distance e stands at place e, so that the chain begins at
--- place 0 with the start. Read forwards an edge leads from each place's node to that of the next.
+-- its parent, and so on down to place d. Places count edges: a chain down to place 0 that has the first entry there begins with the
+-- start. Read forwards an edge leads from each place's node to that of the next.
 use mathlib.Core.Path.{_≡_, sym, ap, _∙_, subst}
 use mathlib.Core.List.{List}
 use mathlib.Core.Logic.{_⊎_, inl, inr}

@@ -111,7 +111,7 @@ report-Late =
 
 -- the way with fewest steps, over instruction 5, takes one exit more than that over 2, 3 and 4; and a `nop` to itself is never left
 abbrev Around : Flow
-Around = flow 1 (read 1 1 2 5 ∷ put 1 1 3 ∷ copy 1 1 4 ∷ nop 6 ∷ read 1 1 6 6 ∷ under 1 (pos 1) 7 7 ∷ nop 7 ∷ [])
+Around = flow 1 (read 1 1 2 5 ∷ nop 3 ∷ copy 1 1 4 ∷ nop 6 ∷ read 1 1 6 6 ∷ under 1 (pos 1) 7 7 ∷ nop 7 ∷ [])
 
 report-Around : Distance Around 5 m-exit 2 × Distance Around 6 p-exit 2
 unfolding C1 C2 least greatest allConstants constants pattern mark different among spread place

@@ -8,6 +8,7 @@ use mathlib.Core.Option.{Option, none, some}
 use Prim.Native.Nat.{ℕ, zero, suc, _+_, _<_, _≤_}
 use native.Mathlib.Omega.{arith}
 use native.Mathlib.Decide.{ℕ-discrete}
+use native.Mathlib.Numerals.{unary-clauses}
 use lib.IntN.{ℤ, pos}
 use lib.Signed.{ltZ}
 use lib.ListN.{length, getD, set, length-set, length-replicate}
@@ -185,6 +186,11 @@ weight-small (some e) = omega arith
 pub exits-few : (flow : Flow) (tapes : List (List ℤ)) (n : ℕ) → exitsTaken flow tapes n ≤ n
 exits-few flow tapes zero = omega arith
 exits-few flow tapes (suc n) = omega (arith, exits-few flow tapes n, weight-small (exitOf flow (run flow tapes n)))
+
+-- never fewer after more steps
+pub exits-rise : (flow : Flow) (tapes : List (List ℤ)) (n k : ℕ) → exitsTaken flow tapes n ≤ exitsTaken flow tapes (n + k)
+exits-rise flow tapes n zero = simp unary-clauses (omega arith)
+exits-rise flow tapes n (suc k) = simp unary-clauses (omega (arith, exits-rise flow tapes n k))
 
 -- so many up to a step as before it, and its own
 pub exits-end : (flow : Flow) (tapes tapes′ : List (List ℤ)) (n : ℕ) → exitsTaken flow tapes n ≡ exitsTaken flow tapes′ n

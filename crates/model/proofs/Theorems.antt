@@ -3,8 +3,9 @@
 use mathlib.Core.Path.{_≡_, refl, sym, ap, _∙_, subst, subst₂}
 use mathlib.Core.List.{List}
 use mathlib.Core.Option.{Option, some}
-use Prim.Native.Nat.{ℕ, suc, _+_, _≤_}
+use Prim.Native.Nat.{ℕ, suc, _+_, _-_, _≤_}
 use native.Mathlib.Omega.{arith}
+use native.Mathlib.Decide.{ℕ-discrete}
 use lib.IntN.{ℤ}
 use lib.ListN.{length}
 use Rattle.graph.specs.inner.Graph.{Path, Reached, ExitPath, ExitDistance, NoExit}
@@ -14,7 +15,7 @@ use Rattle.model.specs.Distance.{weight, exitsTaken, StepTakes, Takes, D
 use Rattle.model.specs.Pattern.{Mark}
 use Rattle.model.specs.Configuration.{Configuration, configuration, Reachable}
 use Rattle.model.specs.Sample.{Sample}
-use Rattle.model.proofs.Runs.{fair-run, exits-few}
+use Rattle.model.proofs.Runs.{fair-run, exits-few, exits-rise}
 use Rattle.model.proofs.Graph.{Edge, configurations, run-path, simulate}
 use Rattle.model.proofs.Follow.{stands-sample}
 use Rattle.model.proofs.Path.{Real, extend, realise}
@@ -32,6 +33,34 @@ pub distance-steps : (flow : Flow) (i : ℕ) (e : Exit) (d : ℕ) → Distance f
     → (n : ℕ) → StepTakes flow tapes i e n → d ≤ n
 distance-steps flow i e d x tapes h n t =
     omega (arith, x .least tapes (exitsTaken flow tapes n) h (record { step = n; taking = t; exits = refl }), exits-few flow tapes n)
+
+-- ---- the step that takes the exit: before it one exit fewer is taken
+module _ {flow : Flow} {tapes : List (List ℤ)} {i : ℕ} {e : Exit} {d : ℕ} (t : Takes flow tapes i e d) where
+  one-before : exitsTaken flow tapes (t .taking .before) + 1 ≡ d
+  one-before =
+      ap (λ (o : Option Exit). exitsTaken flow tapes (t .taking .before) + weight o) (sym (t .taking .exit))
+      ∙ ap (exitsTaken flow tapes) (sym (t .taking .last))
+      ∙ t .exits
+
+  -- a step up to which d exits are taken is no earlier
+  no-earlier : (n : ℕ) → d ≤ exitsTaken flow tapes n → t .step ≤ n
+  no-earlier n far = go (ℕ-discrete (t .step - n) 0)
+    where
+      go : Dec (t .step - n ≡ 0) → t .step ≤ n
+      go (yes q) = omega (arith, q)
+      go (no q) =
+          let b = t .taking .before in
+          let met : n + (b - n) ≡ b = omega (arith, t .taking .last, q) in
+          let rise = subst (λ (k : ℕ). exitsTaken flow tapes n ≤ exitsTaken flow tapes k) met (exits-rise flow tapes n (b - n)) in
+          absurd (omega (arith, far, rise, one-before))
+
+  -- at the distance it is the first step of the run that takes the exit
+  pub least-first : Distance flow i e d → length tapes ≡ flow .tapes → (n : ℕ) → StepTakes flow tapes i e n → t .step ≤ n
+  least-first x h n s = no-earlier n (x .least tapes (exitsTaken flow tapes n) h (record { step = n; taking = s; exits = refl }))
+
+-- the number of the exit settles the step
+pub takes-step : {flow : Flow} {tapes : List (List ℤ)} {i : ℕ} {e : Exit} {d : ℕ} (t t′ : Takes flow tapes i e d) → t .step ≡ t′ .step
+takes-step t t′ = omega (arith, no-earlier t (t′ .step) (omega (arith, t′ .exits)), no-earlier t′ (t .step) (omega (arith, t .exits)))
 
 -- the edge that takes exit e of instruction i
 abbrev pub Taking : ℕ → Exit → Configuration → Option Exit → Type 0

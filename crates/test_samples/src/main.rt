@@ -115,7 +115,7 @@ fn times(ran: RunAnswer, i: usize, p: bool) -> u32 {
     counts[i]
 }
 
-// With which step a run on the tapes first takes exit p or m of instruction i + 1, found by halves; past 131,072 for a later step or none.
+// With which step a run on the tapes first takes exit p or m of instruction i + 1, found by halves; 131,072 also for a later step or none.
 fn first_step(text: &[u8], i: usize, p: bool, records: &[i32], lengths: &[usize]) -> u64 {
     let mut before = 0;
     let mut span = 65536;

@@ -56,7 +56,7 @@ unfoldable pub FirstIs : (takes : ℕ → Bool) (n : ℕ) → Found → Type 0
 FirstIs takes n (At k) = First takes n k
 FirstIs takes n Nothing = NoneBefore takes n
 
--- the number that is listed for an exit: 0 if none of n entries takes it, and else one step more than to the first that does
+-- the number that is listed for an exit: 0 if none of n entries takes it, and else one exit more than to the first that does
 pub data Listed (takes : ℕ → Bool) (dist : ℕ → ℕ) (n c : ℕ) : Type 0 where
   unmet : c ≡ 0 → NoneBefore takes n → Listed takes dist n c
   met : (k : ℕ) → First takes n k → c ≡ dist k + 1 → Listed takes dist n c
