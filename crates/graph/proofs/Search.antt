@@ -181,7 +181,7 @@ module _ {A L : Type 0} {G : Graph A L} {t : Table A} {c k : ℕ} (s : Searching
         last = λ m i h. omega (arith, s .last late i h, s .sorted c (c + 1) (omega arith) m);
         level = s .level;
         settled = below-more (Settled G t) c (s .settled)
-            (λ l y e free. let h = held l y e free in record { at = h .at; below = h .below; is = h .is; near = s .last late (h .at) (h .below) });
+            (λ l y e free. let h = held l y e free in record { at = h .at; below = h .below; is = h .is; near = omega (arith, s .last late (h .at) (h .below)) });
         closed = s .closed;
       }
 

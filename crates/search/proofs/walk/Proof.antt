@@ -47,7 +47,7 @@ exploring c = let at = c .before in let b = at .before .before in at .loop .inv 
 
 -- the entry is the first that is not settled, or entry k
 turn : (c : tie.Joined1 Inv-loop μ-loop) → let at = c .before .before in Turn (at .loop .n) (at .loop .c) (at .loop .k) (c .if1 .at) (c .if1 .cost)
-turn c = either (λ t. inl (t .0 .taken, t .1, t .2)) (λ t. inr (t .0 .left, t .1, t .2)) (c .if1 .came)
+turn c = either (λ t. inl (omega (arith, t .0 .taken, c .before .loop-test .taken), t .1, t .2)) (λ t. inr (omega (arith, t .0 .left), t .1, t .2)) (c .if1 .came)
 
 small : (c : tie.Joined1 Inv-loop μ-loop) → c .if1 .cost ≤ 1
 small c = either (λ t. omega (arith, t .2)) (λ t. omega (arith, t .2)) (turn c)
