@@ -24,6 +24,32 @@ fn fan(cells: &mut Cells, n: &mut usize, size: usize, k: usize, d: u32, op: &Op,
     Some(())
 }
 
+/// What entry k leads to, if its step takes no exit and goes on.
+fn settle(cells: &mut Cells, n: &mut usize, size: usize, k: usize, plan: &Plan, table: &[u16]) -> Option<()> {
+    let place = cells.place(k);
+    let op = &plan.ops[configuration::at(place) - 1];
+    if matches!(op.action, Action::Assign | Action::Go) {
+        let x = Words { place, pattern: cells.pattern(k) };
+        let y = configuration::next(op, plan.w, x, table);
+        cells.visit(n, size, y.place, y.pattern, cells.distance(k), k)?;
+    }
+    Some(())
+}
+
+/// What entry k leads to, if its steps take an exit.
+fn expand(cells: &mut Cells, n: &mut usize, size: usize, k: usize, plan: &Plan, table: &[u16]) -> Option<()> {
+    let place = cells.place(k);
+    let op = &plan.ops[configuration::at(place) - 1];
+    if matches!(op.action, Action::Read | Action::Test) {
+        let x = Words { place, pattern: cells.pattern(k) };
+        let d = cells.distance(k) + 1;
+        fan(cells, n, size, k, d, op, plan.w, x, table)?;
+        let y = configuration::next(op, plan.w, x, table);
+        cells.visit(n, size, y.place, y.pattern, d, k)?;
+    }
+    Some(())
+}
+
 /// The number of reachable configurations; none if there are too few cells.
 pub fn search(cells: &mut Cells, plan: &Plan, table: &[u16]) -> Option<usize> {
     let size = cells.size();
@@ -35,20 +61,11 @@ pub fn search(cells: &mut Cells, plan: &Plan, table: &[u16]) -> Option<usize> {
     // steps without an exit are followed first, so that distances never fall along the index
     let (mut settled, mut expanded) = (0, 0);
     while expanded < n {
-        let quiet = settled < n;
-        let k = if quiet { settled } else { expanded };
-        let place = cells.place(k);
-        let op = &plan.ops[configuration::at(place) - 1];
-        if quiet != matches!(op.action, Action::Read | Action::Test) {
-            let x = Words { place, pattern: cells.pattern(k) };
-            let d = cells.distance(k) + u32::from(!quiet);
-            fan(cells, &mut n, size, k, d, op, plan.w, x, table)?;
-            let y = configuration::next(op, plan.w, x, table);
-            cells.visit(&mut n, size, y.place, y.pattern, d, k)?;
-        }
-        if quiet {
+        if settled < n {
+            settle(cells, &mut n, size, settled, plan, table)?;
             settled += 1;
         } else {
+            expand(cells, &mut n, size, expanded, plan, table)?;
             expanded += 1;
         }
     }
@@ -60,12 +77,14 @@ pub fn exits(cells: &Cells, n: usize, plan: &Plan, table: &[u16]) -> ([u32; 64],
     let mut p = [0; 64];
     let mut m = [0; 64];
     for k in 0..n {
-        let x = Words { place: cells.place(k), pattern: cells.pattern(k) };
-        let i = configuration::at(x.place) - 1;
-        if p[i] != 0 && m[i] != 0 {
+        let place = cells.place(k);
+        let i = configuration::at(place) - 1;
+        let op = &plan.ops[i];
+        if !matches!(op.action, Action::Read | Action::Test) || p[i] != 0 && m[i] != 0 {
             continue;
         }
-        let taken = configuration::exits_of(&plan.ops[i], plan.w, x, table);
+        let x = Words { place, pattern: cells.pattern(k) };
+        let taken = configuration::exits_of(op, plan.w, x, table);
         let d = cells.distance(k) + 1;
         if taken.0 && p[i] == 0 {
             p[i] = d;

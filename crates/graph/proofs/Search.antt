@@ -4,7 +4,7 @@
 use mathlib.Core.Path.{_≡_, sym, ap, _∙_, subst, subst₂}
 use native.Mathlib.Decide.{ℕ-discrete}
 use mathlib.Core.Logic.{_⊎_, inl, inr}
-use Prim.Native.Nat.{ℕ, _+_, _-_, _<_, _≤_}
+use Prim.Native.Nat.{ℕ, _+_, _<_, _≤_}
 use native.Mathlib.Omega.{arith}
 use borrow.Author.Count.{below-more}
 use Rattle.graph.specs.inner.Graph.{Graph}
@@ -241,13 +241,14 @@ module _ {A L : Type 0} {G : Graph A L} {t : Table A} {c k : ℕ} (s : Searching
             let d : t .dist k + 1 ≡ t .dist at + cost = omega (arith, ap (t .dist) e) in subst (Next t c k) d (next-expanded s stored l)
 
     -- all that the edges lead to is stored
-    pub turned : ((l : L) → G .cost l ≤ 1) → ((y : A) → LedTo G t at cost y → Held t′ y) → Searching G t′ (c + (1 - cost)) (k + cost)
-    turned cheap held = by turn
+    pub turned : ((l : L) → G .cost l ≤ 1) → ((y : A) → LedTo G t at cost y → Held t′ y) → {c′ k′ : ℕ} → c′ + cost ≡ c + 1 → k′ ≡ k + cost
+        → Searching G t′ c′ k′
+    turned cheap held {c′} {k′} settled expanded = by turn
       where
         edge : (l : L) (y : A) → G .Edge (t′ .node at) l y → G .Edge (t .node at) l y
         edge l y = subst (λ (x : A). G .Edge x l y) (kept .nodes at turn-stored)
 
-        by : Turn (t .count) c k at cost → Searching G t′ (c + (1 - cost)) (k + cost)
+        by : Turn (t .count) c k at cost → Searching G t′ c′ k′
         by (inl (l, e, z)) =
             subst₂ (Searching G t′) (omega arith) (omega arith)
             (settle turn-grown (omega (arith, kept .more)) (λ m y x free.

@@ -1,34 +1,33 @@
 -- The search of a flow. An entry's words are reached, so they are proper, and its prepared instruction is that of the flow; what its expansion
 -- adds is led to by its edges, so the invariant of a search in the order of distance is kept, and where no cell is left more is reached than fits.
 use mathlib.Core.Path.{_≡_, refl, sym, ap, _∙_, subst, subst₂}
-use mathlib.Core.Bool.{false}
+use mathlib.Core.Bool.{true, false}
 use mathlib.Core.List.{List}
-use mathlib.Core.Logic.{_⊎_, inl, inr}
-use mathlib.Core.Option.{Option}
-use Prim.Native.Nat.{ℕ, zero, suc, _+_, _-_, _%_, _<_, _≤_}
-use native.Mathlib.Decide.{ℕ-discrete}
+use Prim.Native.Nat.{ℕ, suc, _+_, _<_, _≤_}
 use native.Mathlib.Omega.{arith}
 use lib.IntN.{ℤ}
-use lib.ListN.{length, getD, List·getD-eq-default}
+use lib.ListN.{length, getD}
 use Rattle.graph.specs.Lists.{MoreThan}
 use Rattle.graph.specs.inner.Graph.{Reached}
-use Rattle.graph.proofs.Complete.{entry-induction, dist-small}
+use Rattle.graph.proofs.Complete.{entry-path, entry-induction, dist-small}
 use Rattle.graph.proofs.Search.{Turn, search-start, turn-stored, turn-grown, turned, finish}
+use Rattle.graph.specs.inner.Table.{none}
 use Rattle.graph.proofs.Table.{grows-extends, grows-wider}
 use Rattle.graph.proofs.Refusal.{start-outnumber, full-outnumber}
-use Rattle.model.specs.Language.{Flow, stop, instruction}
-use Rattle.model.specs.Machine.{Exit}
-use Rattle.model.specs.Distance.{weight}
+use Rattle.model.specs.Language.{Flow, instruction}
 use Rattle.model.proofs.Runs.{weight-small}
-use Rattle.configuration.specs.inner.Place.{words, atOf}
-use Rattle.configuration.specs.inner.Op.{opOf, readOp, stopOp}
-use Rattle.configuration.specs.inner.Step.{wordExitBy, wordExitOf, startOf}
-use Rattle.configuration.specs.inner.Graph.{WordEdge, moves, takes, opAt, wordGraph}
+use Rattle.flow.specs.Limits.{maxInstructions}
+use Rattle.flow.specs.Legal.{Legal}
+use Rattle.configuration.specs.inner.Place.{atOf}
+use Rattle.configuration.specs.inner.Op.{opOf}
+use Rattle.configuration.specs.inner.Step.{weightOf, passesBy, passesOf, startOf}
+use Rattle.configuration.specs.inner.Graph.{opAt, wordGraph}
 use Rattle.configuration.specs.declared.Words.{Words}
 use Rattle.configuration.specs.declared.Op.{Op}
 use Rattle.configuration.specs.declared.Action.{Action}
 use Rattle.configuration.specs.declared.Action.the-variants.{Read, Assign, Test, Go, Stop}
 use Rattle.configuration.proofs.Edges.{read-lane, edge-proper}
+use Rattle.configuration.proofs.WordExits.{edge-weight, free-stays}
 use Rattle.configuration.proofs.Reaches.{start-proper}
 use Rattle.configuration.specs.inner.Fits.{FlowFits, ProperWords}
 use Rattle.cells.specs.Cells.{mostCells, cellsOf}
@@ -39,9 +38,10 @@ use Rattle.cells.specs.inner.Marks.{isMarked}
 use Rattle.cells.proofs.Fields.{length-column}
 use Rattle.search_table.specs.inner.Table.{wordsAt, tableOf}
 use Rattle.search_visit.specs.inner.Visit.{Outgrown, Kept}
-use Rattle.search_visit.specs.inner.Fan.{Marked, SearchReady, LeadsTo, FanFits, GrownIs}
-use Rattle.search_table.specs.inner.Passes.{Prepared}
-use Rattle.search.specs.inner.Search.{weightBy, weightOf, LeadsAt, ExpandedIs, Exploring, Finished, SearchedIs}
+use Rattle.search_visit.specs.inner.Fan.{Marked, SearchReady, LeadsTo, opensBy, opensOf, FanFits, GrownIs}
+use Rattle.search_table.specs.inner.Passes.{blank, Prepared, Stands}
+use Rattle.search_table.proofs.ReachedPlaces.{path-stands}
+use Rattle.search.specs.inner.Search.{LeadsAt, ExpandedIs, Exploring, Finished, SearchedIs}
 use Rattle.search.specs.declared.Searched.{Searched}
 use Rattle.search_visit.specs.declared.Grown.{Grown}
 use Rattle.search_visit.specs.declared.Grown.the-variants.{To, Full}
@@ -50,56 +50,39 @@ use Rattle.search_visit.proofs.Visiting.{node-words}
 use Rattle.search_visit.proofs.Marks.{true-false}
 
 -- ---- the instruction of a place, as the walk picks it
-pub either : {A B C : Type 0} → (A → C) → (B → C) → A ⊎ B → C
-either f g (inl a) = f a
-either f g (inr b) = g b
+pub picked : {lo : ℤ} {flow : Flow} {ops : List Op} → Prepared lo flow ops → (place i : ℕ) → atOf place ≡ i + 1 → i < maxInstructions
+    → getD ops i blank ≡ opOf lo (instruction flow (atOf place))
+picked {lo} {flow} p place i e l =
+    let s : suc i ≡ atOf place = omega arith in
+    p .each i l ∙ ap (λ (n : ℕ). opOf lo (instruction flow n)) s
 
-module _ {lo : ℤ} {flow : Flow} {ops : List Op} (p : Prepared lo flow ops) where
-  past : (n : ℕ) → (n ≡ 0) ⊎ (64 < n) → instruction flow n ≡ stop
-  past n (inl e) = ap (instruction flow) e
-  past zero (inr l) = refl
-  past (suc n) (inr l) = List·getD-eq-default (flow .instructions) stop (omega (arith, p .few))
-
-  pub picked : (place i : ℕ) {op : Op} → i ≡ (atOf place + 127) % 128
-      → ((i < 64) × (op ≡ getD ops i (readOp 0 0 0 0))) ⊎ ((64 ≤ i) × (op ≡ stopOp)) → op ≡ opOf lo (instruction flow (atOf place))
-  unfolding opOf
-  picked place i e (inl (l, q)) =
-      let s : suc i ≡ atOf place = omega arith in
-      q ∙ p .each i l ∙ ap (λ (n : ℕ). opOf lo (instruction flow n)) s
-  picked place i e (inr (l, q)) = q ∙ ap (opOf lo) (sym (past (atOf place) (go (ℕ-discrete (atOf place) 0))))
-    where
-      go : Dec (atOf place ≡ 0) → (atOf place ≡ 0) ⊎ (64 < atOf place)
-      go (yes z) = inl z
-      go (no z) = inr (omega arith)
-
--- ---- what the steps of an instruction cost
-pub weight-by : (op : Op) (a : Action) (n : ℕ) → op .action ≡ a → n ≡ weightBy a → n ≡ weightOf op
-unfolding weightOf
-weight-by op a n e h = h ∙ ap weightBy (sym e)
-
-edge-weight : {w : ℕ} {op : Op} {x y : Words} {e : Option Exit} → WordEdge w op x e y → weight e ≡ weightOf op
-unfolding wordExitOf weightOf
-edge-weight {w} {op} {x} moves = go (op .action)
+-- a step that goes on without an exit reads no record
+pub passing-shut : (op : Op) (x : Words) → passesOf op ≡ true → opensOf op x ≡ false
+unfolding passesOf opensOf
+passing-shut op x = go (op .action)
   where
-    go : (a : Action) → weight (wordExitBy a w op x) ≡ weightBy a
-    go Read = refl
-    go Assign = refl
-    go Test = refl
-    go Go = refl
-    go Stop = refl
-edge-weight (takes y r q t) = ap weightBy (sym r)
+    go : (a : Action) → passesBy a ≡ true → opensBy a op x ≡ false
+    go Read e = absurd (true-false (sym e))
+    go Assign e = refl
+    go Test e = refl
+    go Go e = refl
+    go Stop e = refl
 
-pub cost-small : (op : Op) → weightOf op ≤ 1
-cost-small op =
-    let x = words 0 0 in
-    omega (arith, edge-weight {w = 0} {op = op} {x = x} moves, weight-small (wordExitOf 0 op x))
-
--- ---- what `expand` answers
+-- ---- what `settle` and `expand` answer
 -- the steps cost something else
 pub expand-none : {w : ℕ} (op : Op) (x : Words) {r : Rows} {count cells : ℕ} (d k : ℕ) {cost : ℕ} → SearchReady w r count cells
     → (weightOf op ≡ cost → ⊥) → GrownIs (LeadsAt w op cost x) (LeadsAt w op cost x) w r r count cells d k (To count)
 unfolding GrownIs
 expand-none op x d k ready other = (kept-none (ready .filled) (λ z a. other (sym (edge-weight (a .1)) ∙ a .2)), ready .marked)
+
+-- no step that costs nothing leads away
+pub settle-none : {w : ℕ} (op : Op) {r : Rows} {count cells i : ℕ} → SearchReady w r count cells → i < count → passesOf op ≡ false
+    → ExpandedIs w op r r count cells i 0 (To count)
+unfolding GrownIs tableOf
+settle-none op {i = i} ready l still = (
+  record { filled = ready .filled; grows = none; all = λ z a. record { at = i; below = l; is = sym (free-stays still (a .1) (a .2)) } },
+  ready .marked,
+)
 
 -- all that x leads to costs as much
 all-at : {w : ℕ} {op : Op} {x : Words} {cost : ℕ} → weightOf op ≡ cost → (y : Words) → LeadsTo w op x y → LeadsAt w op cost x y
@@ -133,6 +116,10 @@ module _ {lo hi : ℤ} {w : ℕ} {flow : Flow} (f : FlowFits lo hi w flow) {r : 
       entry-induction sound (λ i. ProperWords lo w flow (wordsAt (entriesOf r) i))
       (subst (ProperWords lo w flow) (sym (sound .origin)) (start-proper f))
       (λ i m c p. edge-proper f _ p (c .edge))
+
+  pub entry-stands : Legal flow → (i : ℕ) → i < n → Stands (getD (r .places) i 0)
+  unfolding wordGraph tableOf
+  entry-stands l i h = path-stands l lo w (entry-path (x .searching .sound) i h)
 
   module _ (stored : k < n) {at cost : ℕ} (turn : Turn n c k at cost) where
     -- the words of the entry, and the distance of what its edges of that cost lead to
@@ -185,14 +172,14 @@ module _ {lo hi : ℤ} {w : ℕ} {flow : Flow} (f : FlowFits lo hi w flow) {r : 
       pub explored : {r′ : Rows} {m : ℕ}
           → Kept (LeadsAt w op cost here) (LeadsAt w op cost here) (entriesOf r) (entriesOf r′) (r′ .heads) (r′ .nexts)
           n cells further at m × Marked w (r′ .fans) (tableOf (entriesOf r′) m) → length (r′ .fans) ≡ length (r .fans)
-          → Exploring lo w flow r′ m cells (c + (1 - cost)) (k + cost)
+          → {c′ k′ : ℕ} → c′ + cost ≡ c + 1 → k′ ≡ k + cost → Exploring lo w flow r′ m cells c′ k′
       unfolding wordGraph tableOf
-      explored {r′} {m} (kept, marks) same =
+      explored {r′} {m} (kept, marks) same settled expanded =
           record {
             ready = record { filled = kept .filled; room = omega (arith, x .ready .room, same); marked = marks };
             searching =
                 turned (x .searching) stored turn (grows-wider led (kept .grows)) weight-small
-                (λ y a. kept .all y (subst (λ (o : Op). LeadsAt w o cost here y) (sym is) a));
+                (λ y a. kept .all y (subst (λ (o : Op). LeadsAt w o cost here y) (sym is) a)) settled expanded;
           }
 
   -- no entry is left

@@ -11,12 +11,10 @@ ghost use Rattle.cells.specs.inner.Columns.{distanceField, column, columnsOf};
 ghost use Rattle.cells.specs.inner.Entries.{entriesOf};
 ghost use Rattle.search_table.specs.inner.Table.{wordsAt};
 ghost use Rattle.search_visit.specs.inner.Fan.{SearchReady, FanFits};
-ghost use Rattle.search.specs.inner.Search.{weightOf, Subject, ExpandedIs, Exploring, SearchedIs};
+ghost use Rattle.search.specs.inner.Search.{Subject, ExpandedIs, Exploring, SearchedIs};
 use cells::Cell;
-use configuration::Action;
 use configuration::Op;
 use configuration::Words;
-use configuration::place;
 use flow::Flow;
 use search_visit::Grown;
 
@@ -26,28 +24,42 @@ pub enum Searched {
     Full,
 }
 
-// What the steps of an instruction cost: 1 if they take an exit, and else nothing.
-fn weight(op: Op) -> u32
-    ensures { λ r. ⌜ r ≡ weightOf op ⌝ }
+// Visits what entry i leads to, if its step costs nothing; `stop` leads to itself.
+fn settle(
+    cells: &mut [[u32; Cell::WORDS]],
+    table: &[u16],
+    count: usize,
+    size: usize,
+    i: usize,
+    op: Op,
+    w: u64,
+) -> Grown
+    requires { ⌜ IsTable (now table) ⌝ }
+    requires { ⌜ SearchReady w (columnsOf (now cells)) count size ⌝ }
+    requires { ⌜ i < count ⌝ }
+    requires { ⌜ FanFits w op (wordsAt (entriesOf (columnsOf (now cells))) i) ⌝ }
+    ensures { λ r. ⌜ ExpandedIs w op
+        (columnsOf (now (cells .entry)))
+        (columnsOf (now (cells .exit)))
+        count size i 0 r ⌝ }
 {
-    let action = op.action;
-    match action {
-        Action::Read => 1,
-        Action::Assign => 0,
-        Action::Test => 1,
-        Action::Go => 0,
-        Action::Stop => 0,
+    if !configuration::passes(op) {
+        return Grown::To(count);
     }
+    let x = search_table::words_at(cells, i);
+    let d = cells::get(cells, i, Cell::DISTANCE);
+    let y = configuration::follow(table, op, w, x);
+    let s = search_visit::visit(cells, count, size, d, i, y);
+    search_visit::after_visit(s)
 }
 
-// Visits what entry i leads to, if its steps cost so much.
+// Visits what entry i leads to, if its steps cost 1.
 fn expand(
     cells: &mut [[u32; Cell::WORDS]],
     table: &[u16],
     count: usize,
     size: usize,
     i: usize,
-    cost: u32,
     op: Op,
     w: u64,
 ) -> Grown
@@ -59,25 +71,24 @@ fn expand(
     ensures { λ r. ⌜ ExpandedIs w op
         (columnsOf (now (cells .entry)))
         (columnsOf (now (cells .exit)))
-        count size i cost r ⌝ }
+        count size i 1 r ⌝ }
 {
-    if weight(op) != cost {
+    if configuration::weight(op) != 1 {
         return Grown::To(count);
     }
     let x = search_table::words_at(cells, i);
-    let d = cells::get(cells, i, Cell::DISTANCE) + cost;
+    let d = cells::get(cells, i, Cell::DISTANCE) + 1;
     let g = search_visit::fan(cells, table, count, size, d, i, op, w, x);
     let Grown::To(n) = g else {
         return Grown::Full;
     };
-    let y = configuration::next(table, op, w, x);
+    let y = configuration::branch(table, op, w, x);
     let s = search_visit::visit(cells, n, size, d, i, y);
     search_visit::after_visit(s)
 }
 
-// Expands entries until none is left or no cell is. Each is looked at twice: c is the first that is not settled, for steps that cost nothing, and
-// k, when all are settled, the first that is not expanded, for those that cost 1. Instruction number i is ops[i - 1]; a number that names none
-// stops.
+// Looks at each entry twice until none is left or no cell is: c is the first that is not settled and k, when all are settled, the first that is
+// not expanded. Instruction number i is ops[i - 1].
 fn walk(
     cells: &mut [[u32; Cell::WORDS]],
     table: &[u16],
@@ -97,24 +108,25 @@ fn walk(
     let mut c = 0;
     let mut k = 0;
     while k < n {
-        let mut at = k;
-        let mut cost = 1;
         if c < n {
-            at = c;
-            cost = 0;
+            let i = search_table::index(cells::word(cells, c, Cell::PLACE));
+            let op = ops[i];
+            let g = settle(cells, table, n, size, c, op, w);
+            let Grown::To(m) = g else {
+                return Searched::Full;
+            };
+            n = m;
+            c += 1;
+        } else {
+            let i = search_table::index(cells::word(cells, k, Cell::PLACE));
+            let op = ops[i];
+            let g = expand(cells, table, n, size, k, op, w);
+            let Grown::To(m) = g else {
+                return Searched::Full;
+            };
+            n = m;
+            k += 1;
         }
-        let i = (place::at(cells::word(cells, at, Cell::PLACE)) + 127) % 128;
-        let mut op = Op::stop();
-        if i < Flow::MAX_INSTRUCTIONS {
-            op = ops[i];
-        }
-        let g = expand(cells, table, n, size, at, cost, op, w);
-        let Grown::To(m) = g else {
-            return Searched::Full;
-        };
-        n = m;
-        c += 1 - cost as usize;
-        k += cost as usize;
     }
     Searched::Done(n)
 }

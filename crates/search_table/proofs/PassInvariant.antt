@@ -44,6 +44,9 @@ kept-new b c d h e = sym (ap (λ (t : Bool). cond (t && eqb c 0) d c) h ∙ ap (
 pub kept-old : (b : Bool) (c d : ℕ) → (c ≡ 0 → ⊥) → c ≡ cond (b && eqb c 0) d c
 kept-old b c d h = sym (keep b c d _ (omega arith) refl)
 
+pub kept-free : (b : Bool) (c d : ℕ) → b ≡ false → c ≡ cond (b && eqb c 0) d c
+kept-free b c d h = sym (ap (λ (t : Bool). cond (t && eqb c 0) d c) h)
+
 module _ (takes : ℕ → Bool) (dist : ℕ → ℕ) where
   listed-more : (k c d r : ℕ) (b : Bool) → takes k ≡ b → d ≡ dist k + 1 → r ≡ cond (b && eqb c 0) d c → Listed takes dist k c
       → Listed takes dist (k + 1) r

@@ -70,12 +70,16 @@ struct Numbers {
     m: u32,
 }
 
-// The numbers listed for the exits of an instruction after its entry x, at distance d - 1. If both are listed before, x is not looked at.
+// The numbers listed for the exits of an instruction after its entry x, at distance d - 1. If it takes none, or both are listed before, x is not
+// looked at.
 fn list_exits(table: &[u16], p: u32, m: u32, op: Op, w: u64, x: Words, d: u32) -> Numbers
     requires { ⌜ IsTable (now table) ⌝ }
     requires { ⌜ Width w ⌝ }
     ensures { λ r. ⌜ (r .p ≡ cond (takesOf w op x p-exit && eqb p 0) d p) × (r .m ≡ cond (takesOf w op x m-exit && eqb m 0) d m) ⌝ }
 {
+    if configuration::weight(op) == 0 {
+        return Numbers { p, m };
+    }
     if p != 0 {
         if m != 0 {
             return Numbers { p, m };

@@ -71,7 +71,7 @@ module _ {flow : Flow} {p : Plan} (plan : Planned flow p) where
   plan-wide = fits .span .width
 
   abbrev subject : Subject (p .w) (p .ops)
-  subject = record { lo = C1 flow; hi = C2 flow; flow = flow; fit = fits; prepared = plan .prepared }
+  subject = record { lo = C1 flow; hi = C2 flow; flow = flow; legal = plan .legal; fit = fits; prepared = plan .prepared }
 
   pub plan-subject : (s : Subject (p .w) (p .ops)) × (p .start ≡ startOf (s .lo))
   plan-subject = (subject, plan .begins)

@@ -63,6 +63,28 @@ wordExitBy Stop w op x = none
 unfoldable pub wordExitOf : (w : ℕ) → Op → Words → Option Exit
 wordExitOf w op x = wordExitBy (op .action) w op x
 
+-- what the steps of an instruction weigh, by the action
+abbrev pub weightBy : Action → ℕ
+weightBy Read = 1
+weightBy Assign = 0
+weightBy Test = 1
+weightBy Go = 0
+weightBy Stop = 0
+
+unfoldable pub weightOf : Op → ℕ
+weightOf op = weightBy (op .action)
+
+-- whether the step takes no exit and goes on, by the action
+abbrev pub passesBy : Action → Bool
+passesBy Read = false
+passesBy Assign = true
+passesBy Test = false
+passesBy Go = true
+passesBy Stop = false
+
+unfoldable pub passesOf : Op → Bool
+passesOf op = passesBy (op .action)
+
 -- whether some step takes the exit: of a read m always, and p if its tape has not ended
 abbrev pub takesBy : Action → (w : ℕ) → Op → Words → Exit → Bool
 takesBy Read w op x p-exit = not (endedOf (x .place) (op .tape))

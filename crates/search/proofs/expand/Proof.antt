@@ -1,17 +1,17 @@
--- `expand` meets its contract: where the steps cost as much as is asked, the fan and then the step that reads no record are all that the entry
--- leads to; else there is nothing to store.
+-- `expand` meets its contract: where the steps cost 1, the fan and then the step that reads no record are all that the entry leads to; else there
+-- is nothing to store.
 use mathlib.Core.Path.{_≡_, sym, subst}
 use native.Mathlib.Omega.{arith}
 use denote.Ref.{now}
 use borrow.Author.Needs.{needs}
+use Rattle.configuration.specs.inner.Step.{weightOf}
 use Rattle.cells.specs.inner.Columns.{columnsOf}
 use Rattle.cells.specs.inner.Entries.{entriesOf}
 use Rattle.cells.proofs.Entering.{filled-room}
 use Rattle.search_table.specs.inner.Table.{wordsAt}
 use Rattle.search_visit.specs.inner.Fan.{FanFits}
 use Rattle.search_visit.proofs.Fanning.{fan-answer, next-ready, next-answer}
-use Rattle.search.specs.inner.Search.{weightOf}
-use Rattle.search.proofs.Exploring.{cost-small, expand-none, expand-every, expanded-by}
+use Rattle.search.proofs.Exploring.{expand-none, expand-every, expanded-by}
 use Rattle.search.proofs.expand.Statement.{statement}
 use Rattle.search.proofs.expand.Tie as tie
 
@@ -34,7 +34,7 @@ start c = as-dear c .before .before .before
 same : (c : tie.After-get) → worded c .words-at .result ≡ wordsAt (entriesOf (columnsOf (now (start c .args .cells)))) (start c .args .i)
 same c = worded c .words-at .ensures
 
-dear : (c : tie.Else1) → weightOf (c .before .before .before .args .op) ≡ c .before .before .before .args .cost
+dear : (c : tie.Else1) → weightOf (c .before .before .before .args .op) ≡ 1
 dear c = omega (arith, c .if1 .left, c .before .weight .ensures)
 
 fine : (c : tie.After-get) → FanFits (start c .args .w) (start c .args .op) (worded c .words-at .result)
@@ -58,7 +58,7 @@ get-requires c κs =
 
 add-d : tie.Need-add-d
 add-d c =
-    record { fits = omega (arith, cost-small (start c .args .op), dear (as-dear c), start c .pre .1 .1 .1 .1, c .get .ensures) }
+    record { fits = omega (arith, start c .pre .1 .1 .1 .1, c .get .ensures) }
 
 fan-requires : tie.Need-fan-requires
 fan-requires c κs =
@@ -73,10 +73,10 @@ returns-2 c =
     (expand-every _ _ _ _ _ _ _ _ _ (dear (as-dear g)) _ (fan-answer (fine g) _ _ _ _ _ _ _ (f .fan .ensures) (c .enum-told .given .1) _)) (same g)
     (omega (arith, g .get .ensures))
 
-next-requires : tie.Need-next-requires
-next-requires c κs =
+branch-requires : tie.Need-branch-requires
+branch-requires c κs =
     let g = got (fanned (c .before)) in
-    (start g .pre .0, (fine g .width, fine g .valid))
+    (start g .pre .0, (fine g .width, dear (as-dear g)))
 
 visit-requires : tie.Need-visit-requires
 visit-requires c κs =
@@ -95,7 +95,7 @@ returns-3 c =
     let g = got f in
     expanded-by _ _ _ _ _ _ _ _ _
     (expand-every _ _ _ _ _ _ _ _ _ (dear (as-dear g)) _
-    (next-answer (fine g) _ _ _ _ _ _ _ (f .fan .ensures) (grew .g .given .1) (stepped .next .ensures) _ _
+    (next-answer (fine g) _ _ _ _ _ _ _ (f .fan .ensures) (grew .g .given .1) (stepped .branch .ensures) _ _
     (v .visit .ensures .1) (v .visit .ensures .0) (c .after-visit .ensures))) (same g) (omega (arith, g .get .ensures))
 
 pub expand-spec : {M : Type 1} → statement M
@@ -112,7 +112,7 @@ expand-spec =
     (λ c. search needs)
     (λ c. search needs)
     returns-2
-    next-requires
+    branch-requires
     visit-requires
     (λ c κs. search needs)
     (λ c. search needs)

@@ -10,10 +10,9 @@ use Rattle.graph.specs.inner.Table.{Searching}
 use Rattle.model.specs.Language.{Flow}
 use Rattle.model.specs.Machine.{Exit}
 use Rattle.model.specs.Distance.{weight}
+use Rattle.flow.specs.Legal.{Legal}
 use Rattle.configuration.specs.declared.Words.{Words}
 use Rattle.configuration.specs.declared.Op.{Op}
-use Rattle.configuration.specs.declared.Action.{Action}
-use Rattle.configuration.specs.declared.Action.the-variants.{Read, Assign, Test, Go, Stop}
 use Rattle.configuration.specs.inner.Graph.{WordEdge, wordGraph}
 use Rattle.configuration.specs.inner.Fits.{FlowFits}
 use Rattle.cells.specs.inner.Columns.{Rows}
@@ -25,26 +24,16 @@ use Rattle.search_visit.specs.declared.Grown.{Grown}
 use Rattle.search.specs.declared.Searched.{Searched}
 use Rattle.search.specs.declared.Searched.the-variants.{Done, Full}
 
--- what is searched: a flow of which ops are the prepared instructions
+-- what is searched: a legal flow of which ops are the prepared instructions
 pub record Subject (w : ℕ) (ops : List Op) : Type 0 where
   pub lo : ℤ
   pub hi : ℤ
   pub flow : Flow
+  pub legal : Legal flow
   pub fit : FlowFits lo hi w flow
   pub prepared : Prepared lo flow ops
 
 -- ---- what an entry leads to
--- what the steps of an instruction weigh
-abbrev pub weightBy : Action → ℕ
-weightBy Read = 1
-weightBy Assign = 0
-weightBy Test = 1
-weightBy Go = 0
-weightBy Stop = 0
-
-unfoldable pub weightOf : Op → ℕ
-weightOf op = weightBy (op .action)
-
 -- an edge of x that costs so much leads to y
 abbrev pub LeadsAt : (w : ℕ) → Op → (cost : ℕ) (x y : Words) → Type 0
 LeadsAt w op cost x y = (e : Option Exit) × WordEdge w op x e y × (weight e ≡ cost)
