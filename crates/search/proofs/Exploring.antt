@@ -20,7 +20,7 @@ use Rattle.flow.specs.Limits.{maxInstructions}
 use Rattle.flow.specs.Legal.{Legal}
 use Rattle.configuration.specs.inner.Place.{atOf}
 use Rattle.configuration.specs.inner.Op.{opOf}
-use Rattle.configuration.specs.inner.Step.{weightOf, passesBy, passesOf, startOf}
+use Rattle.configuration.specs.inner.Step.{weightOf, goesOnBy, goesOnOf, startOf}
 use Rattle.configuration.specs.inner.Graph.{opAt, wordGraph}
 use Rattle.configuration.specs.declared.Words.{Words}
 use Rattle.configuration.specs.declared.Op.{Op}
@@ -31,11 +31,12 @@ use Rattle.configuration.proofs.WordExits.{edge-weight, free-stays}
 use Rattle.configuration.proofs.Reaches.{start-proper}
 use Rattle.configuration.specs.inner.Fits.{FlowFits, ProperWords}
 use Rattle.cells.specs.Cells.{mostCells, cellsOf}
-use Rattle.cells.specs.inner.Columns.{marksField, column, Rows}
+use Rattle.cells.specs.inner.Columns.{marksField, column, Rows, columnsOf}
 use Rattle.cells.specs.inner.Index.{node}
 use Rattle.cells.specs.inner.Entries.{entriesOf, distanceOf, Begun}
 use Rattle.cells.specs.inner.Marks.{isMarked}
 use Rattle.cells.proofs.Fields.{length-column}
+use Rattle.cells.proofs.Entering.{filled-room}
 use Rattle.search_table.specs.inner.Table.{wordsAt, tableOf}
 use Rattle.search_visit.specs.inner.Visit.{Outgrown, Kept}
 use Rattle.search_visit.specs.inner.Fan.{Marked, SearchReady, LeadsTo, opensBy, opensOf, FanFits, GrownIs}
@@ -57,16 +58,20 @@ picked {lo} {flow} p place i e l =
     p .each i l ∙ ap (λ (n : ℕ). opOf lo (instruction flow n)) s
 
 -- a step that goes on without an exit reads no record
-pub passing-shut : (op : Op) (x : Words) → passesOf op ≡ true → opensOf op x ≡ false
-unfolding passesOf opensOf
-passing-shut op x = go (op .action)
+pub goes-on-shut : (op : Op) (x : Words) → goesOnOf op ≡ true → opensOf op x ≡ false
+unfolding goesOnOf opensOf
+goes-on-shut op x = go (op .action)
   where
-    go : (a : Action) → passesBy a ≡ true → opensBy a op x ≡ false
+    go : (a : Action) → goesOnBy a ≡ true → opensBy a op x ≡ false
     go Read e = absurd (true-false (sym e))
     go Assign e = refl
     go Test e = refl
     go Go e = refl
     go Stop e = refl
+
+-- an entry has its cell
+pub entry-room : {w : ℕ} (c : List (List ℕ)) {count cells i : ℕ} → SearchReady w (columnsOf c) count cells → i < count → i < length c
+entry-room c ready l = omega (arith, filled-room c (ready .filled), ready .filled .index .within)
 
 -- ---- what `settle` and `expand` answer
 -- the steps cost something else
@@ -76,7 +81,7 @@ unfolding GrownIs
 expand-none op x d k ready other = (kept-none (ready .filled) (λ z a. other (sym (edge-weight (a .1)) ∙ a .2)), ready .marked)
 
 -- no step that costs nothing leads away
-pub settle-none : {w : ℕ} (op : Op) {r : Rows} {count cells i : ℕ} → SearchReady w r count cells → i < count → passesOf op ≡ false
+pub settle-none : {w : ℕ} (op : Op) {r : Rows} {count cells i : ℕ} → SearchReady w r count cells → i < count → goesOnOf op ≡ false
     → ExpandedIs w op r r count cells i 0 (To count)
 unfolding GrownIs tableOf
 settle-none op {i = i} ready l still = (
@@ -129,7 +134,7 @@ module _ {lo hi : ℤ} {w : ℕ} {flow : Flow} (f : FlowFits lo hi w flow) {r : 
     abbrev further : ℕ
     further = distanceOf (entriesOf r) at + cost
 
-    pub entry-stored : at < n
+    entry-stored : at < n
     unfolding tableOf
     entry-stored = turn-stored (x .searching) stored turn
 

@@ -24,7 +24,7 @@ pub enum Searched {
     Full,
 }
 
-// Visits what entry i leads to, if its step costs nothing; `stop` leads to itself.
+// Visits what entry i leads to, if its step costs nothing. What `stop` leads to, itself, is stored.
 fn settle(
     cells: &mut [[u32; Cell::WORDS]],
     table: &[u16],
@@ -43,7 +43,7 @@ fn settle(
         (columnsOf (now (cells .exit)))
         count size i 0 r ⌝ }
 {
-    if !configuration::passes(op) {
+    if !configuration::goes_on(op) {
         return Grown::To(count);
     }
     let x = search_table::words_at(cells, i);

@@ -70,8 +70,8 @@ struct Numbers {
     m: u32,
 }
 
-// The numbers listed for the exits of an instruction after its entry x, at distance d - 1. If it takes none, or both are listed before, x is not
-// looked at.
+// The numbers listed for the exits of an instruction after its entry x, at distance d - 1. If the instruction has none, or both are listed
+// before, x is not looked at.
 fn list_exits(table: &[u16], p: u32, m: u32, op: Op, w: u64, x: Words, d: u32) -> Numbers
     requires { ⌜ IsTable (now table) ⌝ }
     requires { ⌜ Width w ⌝ }

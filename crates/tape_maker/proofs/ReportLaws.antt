@@ -45,10 +45,10 @@ use Rattle.tape_maker.specs.declared.ReportAnswer.{ReportAnswer}
 use Rattle.tape_maker.specs.declared.planning.Plan.{Plan}
 
 -- what the array of prepared instructions holds
-pub rows-prepared : (held : FlowRows) {ops : List Op} → Legal (flowOf held)
+pub rows-prepared : (held : FlowRows) {ops : List Op}
     → Each (opOf (C1 (flowOf held))) blank (held .instructions) (held .count) ops → Prepared (C1 (flowOf held)) (flowOf held) ops
 unfolding flowOf
-rows-prepared held legal e = record { few = legal .size .1; each = λ i l. e .at i l }
+rows-prepared held e = record { each = λ i l. e .at i l }
 
 -- the numbers that count fit a byte
 pub rows-bytes : (held : FlowRows) → Legal (flowOf held) → AllFitBytes (held .instructions) (held .count)

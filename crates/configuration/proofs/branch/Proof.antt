@@ -23,4 +23,20 @@ returns-5 : tie.Need-returns-5
 returns-5 c = arms.not-weighing _ _ (c .enum-told5 .given .1) (c .before .before .before .pre .1 .1) refl
 
 pub branch-spec : {M : Type 1} → statement M
-branch-spec = tie.close (tie.spec (λ c. search needs) (λ c κs. search needs) returns (λ c. search needs) returns-2 (λ c. search needs) (λ c κs. search needs) (λ c κs. search needs) (λ c κs. search needs) returns-3 (λ c. search needs) returns-4 (λ c. search needs) returns-5)
+branch-spec =
+    tie.close
+    (tie.spec
+    (λ c. search needs)
+    (λ c κs. search needs)
+    returns
+    (λ c. search needs)
+    returns-2
+    (λ c. search needs)
+    (λ c κs. search needs)
+    (λ c κs. search needs)
+    (λ c κs. search needs)
+    returns-3
+    (λ c. search needs)
+    returns-4
+    (λ c. search needs)
+    returns-5)

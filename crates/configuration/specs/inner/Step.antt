@@ -75,15 +75,15 @@ unfoldable pub weightOf : Op → ℕ
 weightOf op = weightBy (op .action)
 
 -- whether the step takes no exit and goes on, by the action
-abbrev pub passesBy : Action → Bool
-passesBy Read = false
-passesBy Assign = true
-passesBy Test = false
-passesBy Go = true
-passesBy Stop = false
+abbrev pub goesOnBy : Action → Bool
+goesOnBy Read = false
+goesOnBy Assign = true
+goesOnBy Test = false
+goesOnBy Go = true
+goesOnBy Stop = false
 
-unfoldable pub passesOf : Op → Bool
-passesOf op = passesBy (op .action)
+unfoldable pub goesOnOf : Op → Bool
+goesOnOf op = goesOnBy (op .action)
 
 -- whether some step takes the exit: of a read m always, and p if its tape has not ended
 abbrev pub takesBy : Action → (w : ℕ) → Op → Words → Exit → Bool

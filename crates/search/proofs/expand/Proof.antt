@@ -7,11 +7,10 @@ use borrow.Author.Needs.{needs}
 use Rattle.configuration.specs.inner.Step.{weightOf}
 use Rattle.cells.specs.inner.Columns.{columnsOf}
 use Rattle.cells.specs.inner.Entries.{entriesOf}
-use Rattle.cells.proofs.Entering.{filled-room}
 use Rattle.search_table.specs.inner.Table.{wordsAt}
 use Rattle.search_visit.specs.inner.Fan.{FanFits}
 use Rattle.search_visit.proofs.Fanning.{fan-answer, next-ready, next-answer}
-use Rattle.search.proofs.Exploring.{expand-none, expand-every, expanded-by}
+use Rattle.search.proofs.Exploring.{entry-room, expand-none, expand-every, expanded-by}
 use Rattle.search.proofs.expand.Statement.{statement}
 use Rattle.search.proofs.expand.Tie as tie
 
@@ -25,11 +24,11 @@ got c = c .before .before
 abbrev worded : tie.After-get → tie.After-words-at
 worded c = c .before .before
 
-abbrev as-dear : tie.After-get → tie.Else1
-as-dear c = worded c .before .before
+abbrev weighed : tie.After-get → tie.Else1
+weighed c = worded c .before .before
 
 abbrev start : tie.After-get → tie.Start
-start c = as-dear c .before .before .before
+start c = weighed c .before .before .before
 
 same : (c : tie.After-get) → worded c .words-at .result ≡ wordsAt (entriesOf (columnsOf (now (start c .args .cells)))) (start c .args .i)
 same c = worded c .words-at .ensures
@@ -49,12 +48,12 @@ returns c =
 words-at-requires : tie.Need-words-at-requires
 words-at-requires c κs =
     let p = c .before .before .before .before .pre .1 in
-    omega (arith, filled-room _ (p .0 .filled), p .0 .filled .index .within, p .1 .0)
+    entry-room _ (p .0) (p .1 .0)
 
 get-requires : tie.Need-get-requires
 get-requires c κs =
     let p = c .before .before .before .before .before .before .pre .1 in
-    (omega (arith, filled-room _ (p .0 .filled), p .0 .filled .index .within, p .1 .0), omega arith)
+    (entry-room _ (p .0) (p .1 .0), omega arith)
 
 add-d : tie.Need-add-d
 add-d c =
@@ -70,13 +69,13 @@ returns-2 c =
     let f = c .before .before .before in
     let g = got f in
     expanded-by _ _ _ _ _ _ _ _ _
-    (expand-every _ _ _ _ _ _ _ _ _ (dear (as-dear g)) _ (fan-answer (fine g) _ _ _ _ _ _ _ (f .fan .ensures) (c .enum-told .given .1) _)) (same g)
+    (expand-every _ _ _ _ _ _ _ _ _ (dear (weighed g)) _ (fan-answer (fine g) _ _ _ _ _ _ _ (f .fan .ensures) (c .enum-told .given .1) _)) (same g)
     (omega (arith, g .get .ensures))
 
 branch-requires : tie.Need-branch-requires
 branch-requires c κs =
     let g = got (fanned (c .before)) in
-    (start g .pre .0, (fine g .width, dear (as-dear g)))
+    (start g .pre .0, (fine g .width, dear (weighed g)))
 
 visit-requires : tie.Need-visit-requires
 visit-requires c κs =
@@ -94,7 +93,7 @@ returns-3 c =
     let f = fanned grew in
     let g = got f in
     expanded-by _ _ _ _ _ _ _ _ _
-    (expand-every _ _ _ _ _ _ _ _ _ (dear (as-dear g)) _
+    (expand-every _ _ _ _ _ _ _ _ _ (dear (weighed g)) _
     (next-answer (fine g) _ _ _ _ _ _ _ (f .fan .ensures) (grew .g .given .1) (stepped .branch .ensures) _ _
     (v .visit .ensures .1) (v .visit .ensures .0) (c .after-visit .ensures))) (same g) (omega (arith, g .get .ensures))
 

@@ -5,15 +5,14 @@ use native.Mathlib.Omega.{arith}
 use denote.Ref.{now}
 use borrow.Author.Needs.{needs}
 use borrow.Author.Tests.{not-true, not-false}
-use Rattle.configuration.specs.inner.Step.{passesOf}
-use Rattle.configuration.proofs.WordExits.{passes-free}
+use Rattle.configuration.specs.inner.Step.{goesOnOf}
+use Rattle.configuration.proofs.WordExits.{goes-on-free}
 use Rattle.cells.specs.inner.Columns.{columnsOf}
 use Rattle.cells.specs.inner.Entries.{entriesOf}
-use Rattle.cells.proofs.Entering.{filled-room}
 use Rattle.search_table.specs.inner.Table.{wordsAt}
 use Rattle.search_visit.specs.inner.Fan.{FanFits}
 use Rattle.search_visit.proofs.Fanning.{shut-answer, next-answer}
-use Rattle.search.proofs.Exploring.{passing-shut, settle-none, expand-every, expanded-by}
+use Rattle.search.proofs.Exploring.{entry-room, goes-on-shut, settle-none, expand-every, expanded-by}
 use Rattle.search.proofs.settle.Statement.{statement}
 use Rattle.search.proofs.settle.Tie as tie
 
@@ -27,8 +26,8 @@ start c = worded c .before .before .before .before .before
 same : (c : tie.After-get) → worded c .words-at .result ≡ wordsAt (entriesOf (columnsOf (now (start c .args .cells)))) (start c .args .i)
 same c = worded c .words-at .ensures
 
-passing : (c : tie.After-get) → passesOf (start c .args .op) ≡ true
-passing c = let t = worded c .before .before in sym (t .before .passes .ensures) ∙ not-false _ (t .if1 .left)
+going-on : (c : tie.After-get) → goesOnOf (start c .args .op) ≡ true
+going-on c = let t = worded c .before .before in sym (t .before .goes-on .ensures) ∙ not-false _ (t .if1 .left)
 
 fine : (c : tie.After-get) → FanFits (start c .args .w) (start c .args .op) (worded c .words-at .result)
 fine c = subst (FanFits (start c .args .w) (start c .args .op)) (sym (same c)) (start c .pre .1 .1 .1)
@@ -38,20 +37,20 @@ returns : tie.Need-returns
 returns c =
     let told = c .before in
     let p = told .before .before .pre .1 in
-    settle-none _ (p .0) (p .1 .0) (sym (told .passes .ensures) ∙ not-true _ (c .if1 .taken))
+    settle-none _ (p .0) (p .1 .0) (sym (told .goes-on .ensures) ∙ not-true _ (c .if1 .taken))
 
 words-at-requires : tie.Need-words-at-requires
 words-at-requires c κs =
     let p = c .before .before .before .before .pre .1 in
-    omega (arith, filled-room _ (p .0 .filled), p .0 .filled .index .within, p .1 .0)
+    entry-room _ (p .0) (p .1 .0)
 
 get-requires : tie.Need-get-requires
 get-requires c κs =
     let p = c .before .before .before .before .before .before .pre .1 in
-    (omega (arith, filled-room _ (p .0 .filled), p .0 .filled .index .within, p .1 .0), omega arith)
+    (entry-room _ (p .0) (p .1 .0), omega arith)
 
 follow-requires : tie.Need-follow-requires
-follow-requires c κs = (start c .pre .0, (fine c .width, (fine c .valid, passing c)))
+follow-requires c κs = (start c .pre .0, (fine c .width, (fine c .valid, going-on c)))
 
 visit-requires : tie.Need-visit-requires
 visit-requires c κs = let s = start (c .before .before) in (s .pre .1 .0 .filled, omega (arith, s .pre .1 .1 .0))
@@ -62,8 +61,8 @@ returns-2 c =
     let stepped = v .before .before in
     let g = stepped .before in
     expanded-by _ _ _ _ _ _ _ _ _
-    (expand-every _ _ _ _ _ _ _ _ _ (passes-free _ (passing g)) _
-    (next-answer (fine g) _ _ _ _ _ _ _ (shut-answer (fine g) (start g .pre .1 .0) _ _ (passing-shut _ _ (passing g))) refl (stepped .follow .ensures) _ _
+    (expand-every _ _ _ _ _ _ _ _ _ (goes-on-free _ (going-on g)) _
+    (next-answer (fine g) _ _ _ _ _ _ _ (shut-answer (fine g) (start g .pre .1 .0) _ _ (goes-on-shut _ _ (going-on g))) refl (stepped .follow .ensures) _ _
     (v .visit .ensures .1) (v .visit .ensures .0) (c .after-visit .ensures))) (same g) (omega (arith, g .get .ensures))
 
 pub settle-spec : {M : Type 1} → statement M

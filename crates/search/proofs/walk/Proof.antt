@@ -11,13 +11,12 @@ use Rattle.configuration.specs.inner.Graph.{opAt}
 use Rattle.cells.specs.inner.Columns.{marksField, columnsOf}
 use Rattle.cells.specs.inner.Entries.{entriesOf}
 use Rattle.cells.proofs.Fields.{column-long}
-use Rattle.cells.proofs.Entering.{filled-room}
 use Rattle.search_table.specs.inner.Passes.{blank, Stands}
 use Rattle.search_table.specs.inner.Table.{wordsAt}
 use Rattle.search.specs.inner.Search.{LeadsAt, Subject, Exploring, SearchedIs}
 use Rattle.search_visit.proofs.Fanning.{grown-to, grown-full}
 use Rattle.graph.proofs.Search.{Turn}
-use Rattle.search.proofs.Exploring.{picked, settled-within, entry-stands, entry-fine, entry-near, explored, explored-full, search-finished}
+use Rattle.search.proofs.Exploring.{entry-room, picked, settled-within, entry-stands, entry-fine, entry-near, explored, explored-full, search-finished}
 use Rattle.search.proofs.walk.Statement.{statement}
 use Rattle.search.proofs.walk.Tie as tie
 
@@ -37,7 +36,7 @@ exploring : (c : tie.In-loop Inv-loop μ-loop) → let at = c .before in
 exploring c = let at = c .before in let b = at .before .before in at .loop .inv .0 (b .pre .1 .0) (b .pre .1 .1)
 
 room : (c : tie.In-loop Inv-loop μ-loop) (i : ℕ) → i < c .before .loop .n → i < length (c .before .loop .cells)
-room c i l = let f = exploring c .ready .filled in omega (arith, filled-room _ f, f .index .within)
+room c i l = entry-room _ (exploring c .ready) l
 
 stands : (c : tie.In-loop Inv-loop μ-loop) (i : ℕ) → i < c .before .loop .n → Stands (getD (columnsOf (c .before .loop .cells) .places) i 0)
 stands c i l = let s = c .before .before .before .pre .1 .0 in entry-stands (s .fit) (exploring c) (s .legal) i l
@@ -49,6 +48,9 @@ late c = omega (arith, c .if1 .taken, c .before .loop-test .taken)
 settling : (c : tie.Then1 Inv-loop μ-loop) → let at = c .before .before in Turn (at .loop .n) (at .loop .c) (at .loop .k) (at .loop .c) 0
 settling c = inl (late c, refl, refl)
 
+abbrev settled-at : tie.After-known-told Inv-loop μ-loop → tie.Then1 Inv-loop μ-loop
+settled-at c = c .before .before .before .before .before .before .before .before .before .before
+
 -- the instruction is that of the entry, whatever flow it is prepared from
 pick : (c : tie.After-index Inv-loop μ-loop) → let at = c .before .before .before .before .before in
     let b = at .before .before in (s : Subject (b .args .w) (b .args .t4))
@@ -58,6 +60,9 @@ pick c s = picked (s .prepared) _ _ (sym (ap atOf (c .before .word .ensures)) �
 -- ---- an entry is expanded
 expanding : (c : tie.Else1 Inv-loop μ-loop) → let at = c .before .before in Turn (at .loop .n) (at .loop .c) (at .loop .k) (at .loop .k) 1
 expanding c = inr (omega (arith, c .if1 .left), refl, refl)
+
+abbrev expanded-at : tie.After-known-told2 Inv-loop μ-loop → tie.Else1 Inv-loop μ-loop
+expanded-at c = c .before .before .before .before .before .before .before .before .before .before
 
 pick-2 : (c : tie.After-index2 Inv-loop μ-loop) → let at = c .before .before .before .before .before in
     let b = at .before .before in (s : Subject (b .args .w) (b .args .t4))
@@ -98,13 +103,13 @@ returns c =
 
 add-c : tie.Need-add-c Inv-loop μ-loop
 add-c c =
-    let t = c .before .before .before .before .before .before .before .before .before .before in
+    let t = settled-at c in
     let x = exploring (t .before) in
     record { fits = omega (arith, settled-within x, x .ready .filled .index .within, x .ready .filled .index .few) }
 
 loop-less : tie.Need-loop-less Inv-loop μ-loop
 loop-less c =
-    let t = c .before .before .before .before .before .before .before .before .before .before in
+    let t = settled-at c in
     let x = exploring (t .before) in
     omega (arith, x .ready .filled .index .within, late t, t .before .loop-test .taken)
 
@@ -150,13 +155,13 @@ returns-2 c =
 
 add-k : tie.Need-add-k Inv-loop μ-loop
 add-k c =
-    let t = c .before .before .before .before .before .before .before .before .before .before in
+    let t = expanded-at c in
     let x = exploring (t .before) in
     record { fits = omega (arith, x .ready .filled .index .within, x .ready .filled .index .few, t .before .loop-test .taken) }
 
 loop-less-2 : tie.Need-loop-less-2 Inv-loop μ-loop
 loop-less-2 c =
-    let t = c .before .before .before .before .before .before .before .before .before .before in
+    let t = expanded-at c in
     let x = exploring (t .before) in
     omega (arith, x .ready .filled .index .within, settled-within x, t .before .loop-test .taken)
 

@@ -25,7 +25,6 @@ blank = readOp 0 0 0 0
 
 -- ops are the flow's instructions, prepared: instruction i stands at i - 1, and past the flow's last stands `stop`
 pub record Prepared (lo : ℤ) (flow : Flow) (ops : List Op) : Type 0 where
-  pub few : length (flow .instructions) ≤ maxInstructions
   pub each : (i : ℕ) → i < maxInstructions → getD ops i blank ≡ opOf lo (instruction flow (suc i))
 
 -- words stand at an instruction of such an array

@@ -49,7 +49,7 @@ returns c =
     let ops = width .before .prepare in
     record {
       legal = a .pre .0;
-      prepared = rows-prepared flow (a .pre .0)
+      prepared = rows-prepared flow
           (subst (λ (z : ℤ). Each (opOf z) blank (flow .instructions) (flow .count) (ops .result)) (lo-is width) (ops .ensures));
       width = width .width .ensures ∙ ap₂ widthOf (range .0) (range .1);
       begins = c .start .ensures ∙ ap startOf (lo-is width);
