@@ -3,7 +3,7 @@
 // the laws of proofs/ lead from there to the distances and the count of configurations of document 01.
 
 ghost use mathlib.Core.Path.{_≡_};
-ghost use mathlib.Core.Bool.{cond, _&&_};
+ghost use mathlib.Core.Bool.{not, cond, _&&_, _||_};
 ghost use Prim.Native.Nat.{_+_, _≤_, _<_};
 ghost use lib.ListN.{length, getD};
 ghost use lib.Dec.{eqb};
@@ -12,7 +12,7 @@ ghost use Rattle.flow.specs.Limits.{maxInstructions};
 ghost use Rattle.outside_row.specs.inner.Table.{IsTable};
 ghost use Rattle.pattern_word.specs.inner.Pattern.{Width};
 ghost use Rattle.configuration.specs.inner.Place.{atOf};
-ghost use Rattle.configuration.specs.inner.Step.{takesOf};
+ghost use Rattle.configuration.specs.inner.Step.{weightOf, takesOf};
 ghost use Rattle.pattern_word.specs.inner.Digits.{Below};
 ghost use Rattle.cells.specs.inner.Columns.{placeField, patternField, distanceField, wayField, column, wordColumn, columnsOf};
 ghost use Rattle.cells.specs.inner.Entries.{entriesOf};
@@ -70,21 +70,12 @@ struct Numbers {
     m: u32,
 }
 
-// The numbers listed for the exits of an instruction after its entry x, at distance d - 1. If the instruction has none, or both are listed
-// before, x is not looked at.
+// The numbers listed for the exits of an instruction after its entry x, at distance d - 1.
 fn list_exits(table: &[u16], p: u32, m: u32, op: Op, w: u64, x: Words, d: u32) -> Numbers
     requires { ⌜ IsTable (now table) ⌝ }
     requires { ⌜ Width w ⌝ }
     ensures { λ r. ⌜ (r .p ≡ cond (takesOf w op x p-exit && eqb p 0) d p) × (r .m ≡ cond (takesOf w op x m-exit && eqb m 0) d m) ⌝ }
 {
-    if configuration::weight(op) == 0 {
-        return Numbers { p, m };
-    }
-    if p != 0 {
-        if m != 0 {
-            return Numbers { p, m };
-        }
-    }
     let taken = configuration::exits_of(table, op, w, x);
     Numbers {
         p: kept(p, taken.p, d),
@@ -92,7 +83,20 @@ fn list_exits(table: &[u16], p: u32, m: u32, op: Op, w: u64, x: Words, d: u32) -
     }
 }
 
-// The distances of all exits.
+// Whether the instruction has an exit that is not listed.
+fn unlisted(op: Op, p: u32, m: u32) -> bool
+    ensures { λ r. ⌜ r ≡ (not (eqb (weightOf op) 0) && (eqb p 0 || eqb m 0)) ⌝ }
+{
+    if configuration::weight(op) == 0 {
+        return false;
+    }
+    if p == 0 {
+        return true;
+    }
+    m == 0
+}
+
+// The distances of all exits. An entry at which none is left to list is not looked into.
 pub fn exits(
     cells: &[[u32; Cell::WORDS]],
     table: &[u16],
@@ -109,13 +113,14 @@ pub fn exits(
     let mut m: [u32; Flow::MAX_INSTRUCTIONS] = [0; Flow::MAX_INSTRUCTIONS];
     let mut k = 0;
     while k < n {
-        let x = words_at(cells, k);
-        let i = index(x.place);
+        let i = index(cells::word(cells, k, Cell::PLACE));
         let op = ops[i];
-        let d = cells::get(cells, k, Cell::DISTANCE) + 1;
-        let listed = list_exits(table, p[i], m[i], op, w, x, d);
-        p[i] = listed.p;
-        m[i] = listed.m;
+        if unlisted(op, p[i], m[i]) {
+            let d = cells::get(cells, k, Cell::DISTANCE) + 1;
+            let listed = list_exits(table, p[i], m[i], op, w, words_at(cells, k), d);
+            p[i] = listed.p;
+            m[i] = listed.m;
+        }
         k += 1;
     }
     Distances { p, m }

@@ -1,23 +1,25 @@
 -- `exits` meets its contract: both columns list what the entries before k take (proofs/PassInvariant.antt).
-use mathlib.Core.Path.{refl, sym, ap, _∙_, subst}
+use mathlib.Core.Path.{_≡_, refl, sym, ap, _∙_, subst}
 use mathlib.Core.List.{List}
-use Prim.Native.Nat.{ℕ, _+_, _-_, _≤_}
+use Prim.Native.Nat.{ℕ, _+_, _-_, _<_, _≤_}
 use native.Mathlib.Omega.{arith}
 use borrow.Author.Needs.{needs}
-use Rattle.model.specs.Machine.{p-exit, m-exit}
-use lib.ListN.{length}
+use Rattle.model.specs.Machine.{Exit, p-exit, m-exit}
+use lib.ListN.{length, getD}
 use Rattle.configuration.specs.inner.Place.{atOf}
-use Rattle.configuration.specs.declared.Words.{Words}
+use Rattle.configuration.specs.declared.Op.{Op}
 use Rattle.cells.proofs.Fields.{length-word-column}
 use Rattle.search_table.specs.inner.Passes.{Stands, Walkable}
 use Rattle.cells.specs.inner.Columns.{placeField, patternField, distanceField, column, wordColumn}
-use Rattle.search_table.proofs.PassInvariant.{exit-words, Filling, filling-start, filling-more, filling-end}
+use Rattle.search_table.proofs.PassInvariant.{either, exit-words, Filling, filling-start, none-left, filling-more, filling-same, filling-end}
 use Rattle.search_table.proofs.exits.Statement.{statement}
 use Rattle.search_table.proofs.exits.Tie as tie
 
+abbrev Listing : (cells : List (List ℕ)) (w : ℕ) (ops : List Op) → Exit → (k : ℕ) → List ℕ → Type 0
+Listing cells w = Filling w (wordColumn placeField cells) (wordColumn patternField cells) (column distanceField cells)
+
 abbrev Inv-loop : tie.InvT-loop
-Inv-loop cells table n w ops p₀ m₀ k₀ p m k =
-    (k ≤ n) × Filling w (wordColumn placeField cells) (wordColumn patternField cells) (column distanceField cells) ops p-exit k p × Filling w (wordColumn placeField cells) (wordColumn patternField cells) (column distanceField cells) ops m-exit k m
+Inv-loop cells table n w ops p₀ m₀ k₀ p m k = (k ≤ n) × Listing cells w ops p-exit k p × Listing cells w ops m-exit k m
 
 abbrev μ-loop : tie.MeasureT-loop
 μ-loop cells table n w ops p₀ m₀ k₀ p m k = n - k
@@ -29,40 +31,70 @@ loop-holds c = (search needs, filling-start, filling-start)
 there : (c : List (List ℕ)) {n : ℕ} → Walkable (wordColumn placeField c) (wordColumn patternField c) (column distanceField c) n → n ≤ length c
 there c w = omega (arith, w .place-room, length-word-column placeField c)
 
-words-at-requires : tie.Need-words-at-requires Inv-loop μ-loop
-words-at-requires c κs = omega (arith, c .loop-test .taken, there _ (c .before .before .before .pre .1 .1))
+-- ---- the way back: the instruction, the turn of the loop, and the start
+abbrev indexed : tie.After-unlisted Inv-loop μ-loop → tie.After-index Inv-loop μ-loop
+indexed c = c .before .before
+
+abbrev turn : tie.After-unlisted Inv-loop μ-loop → tie.In-loop Inv-loop μ-loop
+turn c = indexed c .before .before
+
+abbrev start : tie.In-loop Inv-loop μ-loop → tie.Start Inv-loop μ-loop
+start c = c .before .before .before
+
+stored : (c : tie.In-loop Inv-loop μ-loop) → c .before .loop .k < length (start c .args .cells .now)
+stored c = omega (arith, c .loop-test .taken, there _ (start c .pre .1 .1))
+
+-- the entry stands at the instruction
+stands : (c : tie.After-unlisted Inv-loop μ-loop) → let l = turn c in
+    atOf (getD (wordColumn placeField (start l .args .cells .now)) (l .before .loop .k) 0) ≡ indexed c .index .result + 1
+stands c = sym (ap atOf (indexed c .before .word .ensures)) ∙ indexed c .index .ensures .0
+
+-- ---- the needs
+word-requires : tie.Need-word-requires Inv-loop μ-loop
+word-requires c κs = (stored c, omega arith)
 
 index-requires : tie.Need-index-requires Inv-loop μ-loop
 index-requires c κs =
-    let i = c .before in
-    subst (λ (x : Words). Stands (x .place)) (sym (c .words-at .ensures)) (i .before .before .before .pre .1 .1 .stands _ (i .loop-test .taken))
+    let l = c .before in
+    subst Stands (sym (c .word .ensures)) (start l .pre .1 .1 .stands _ (l .loop-test .taken))
 
 get-requires : tie.Need-get-requires Inv-loop μ-loop
-get-requires c κs =
-    let i = c .before .before .before in
-    (omega (arith, i .loop-test .taken, there _ (i .before .before .before .pre .1 .1)), omega arith)
+get-requires c κs = (stored (turn (c .before)), omega arith)
 
 add-d : tie.Need-add-d Inv-loop μ-loop
 add-d c =
-    let i = c .before .before .before .before in
-    let walk = i .before .before .before .pre .1 .1 in
-    omega (arith, c .get .ensures, walk .few, walk .near (i .before .loop .k) (i .loop-test .taken), i .loop-test .taken)
+    let l = turn (c .before .before) in
+    let walk = start l .pre .1 .1 in
+    omega (arith, c .get .ensures, walk .few, walk .near (l .before .loop .k) (l .loop-test .taken), l .loop-test .taken)
+
+words-at-requires : tie.Need-words-at-requires Inv-loop μ-loop
+words-at-requires c κs = stored (turn (c .before .before))
+
+-- both columns, with the entry
+filled : (c : tie.Joined1 Inv-loop μ-loop) → let l = turn (c .before) in
+    let a = start l .args in
+    let k = l .before .loop .k + 1 in
+    Listing (a .cells .now) (a .w) (a .t4) p-exit k (c .if1 .p) × Listing (a .cells .now) (a .w) (a .t4) m-exit k (c .if1 .m)
+filled c =
+    let u = c .before in
+    let l = turn u in
+    let inv = l .before .loop .inv in
+    let i = indexed u .index .ensures .1 in
+    either
+    (λ t.
+    let far = ap (λ (d : ℕ). d + 1) (t .1 .ensures) in (
+      subst (Filling _ _ _ _ _ p-exit _) (sym (t .4)) (filling-more (inv .1) _ _ _ _ i (stands u) (exit-words _ _ _ refl (t .2 .ensures)) far (t .3 .ensures .0)),
+      subst (Filling _ _ _ _ _ m-exit _) (sym (t .5)) (filling-more (inv .2) _ _ _ _ i (stands u) (exit-words _ _ _ refl (t .2 .ensures)) far (t .3 .ensures .1)),
+    ))
+    (λ t.
+    let kept = none-left (start l .args .w) _ _ _ _ _ (sym (u .unlisted .ensures) ∙ t .0 .left) in (
+      subst (Filling _ _ _ _ _ p-exit _) (sym (t .1)) (filling-same (inv .1) _ _ _ _ i (stands u) refl refl (kept .0) refl),
+      subst (Filling _ _ _ _ _ m-exit _) (sym (t .2)) (filling-same (inv .2) _ _ _ _ i (stands u) refl refl (kept .1) refl),
+    ))
+    (c .if1 .came)
 
 loop-again : tie.Need-loop-again Inv-loop μ-loop
-loop-again c =
-    let g = c .before in
-    let n = g .before .before in
-    let x = n .before in
-    let l = x .before .before .loop in
-    let i = n .index .ensures in
-    let same = x .words-at .ensures in
-    let far = ap (λ (d : ℕ). d + 1) (g .get .ensures) in (
-      search needs,
-      filling-more (l .inv .1) _ _ _ _ (i .1) (ap (λ (x : Words). atOf (x .place)) (sym same) ∙ i .0)
-          (exit-words _ _ _ refl same) far (c .list-exits .ensures .0),
-      filling-more (l .inv .2) _ _ _ _ (i .1) (ap (λ (x : Words). atOf (x .place)) (sym same) ∙ i .0)
-          (exit-words _ _ _ refl same) far (c .list-exits .ensures .1),
-    )
+loop-again c = (search needs, filled c .0, filled c .1)
 
 returns : tie.Need-returns Inv-loop μ-loop
 returns c =
@@ -77,16 +109,22 @@ exits-spec =
     Inv-loop
     μ-loop
     loop-holds
-    words-at-requires
+    word-requires
     index-requires
     (λ c. search needs)
     (λ c. search needs)
+    (λ c. search needs)
+    (λ c. search needs)
+    (λ c. search needs)
+    (λ c. search needs)
+    (λ c κs. search needs)
     get-requires
     add-d
     (λ c. search needs)
     (λ c. search needs)
     (λ c. search needs)
     (λ c. search needs)
+    words-at-requires
     (λ c κs. search needs)
     (λ c. search needs)
     (λ c. search needs)
