@@ -5,6 +5,7 @@ The reports are those of the plain searches of tests/searches.py, and the refusa
 comes from the crates. The searches are held to each other, and the files of crates/test_reports and crates/test_samples are compared with
 what this script makes; with --write they are written.
 """
+import multiprocessing
 import sys
 
 import readings
@@ -1036,34 +1037,43 @@ BY_HAND = {
 
 # ---- the files of the two crates
 
-def files():
+def searched(topic, name, text):
+    """What the search finds of a text, or how the text is turned back."""
+    assert text == "".join(line + "\n" for line in text.split("\n") if line), name
+    read = readings.read(text.encode()).decode()
+    refused = read.startswith("refused,")
+    assert refused == (topic == "turned-back"), name
+    if refused:
+        return read
+    assert searches.parse(text) == searches.parse(read), name
+    return Found(topic, name, text)
+
+
+def files(pool):
     """The data of a crate are two files of all its flows, each with its name before it and an empty line after it. So a text may have
     no bytes, but no empty line."""
     made = {f"{crate}/{name}": "" for crate in ("test_reports", "test_samples") for name in ("data/flows", "data/wide", "stdout")}
+    topics = sorted(TOPICS.items(), key=lambda x: list(CELLS).index(file_of(x[0])))
+    cases = [(topic, name, text) for topic, texts in topics for name, text in texts.items()]
     flows = []
-    for topic, texts in sorted(TOPICS.items(), key=lambda x: list(CELLS).index(file_of(x[0]))):
-        for name, text in texts.items():
-            def add(crate, answer):
-                made[f"{crate}/data/{file_of(topic)}"] += f"{topic}/{name}\n{text}\n"
-                made[f"{crate}/stdout"] += f"{topic}/{name}\n{answer}"
-            assert text == "".join(line + "\n" for line in text.split("\n") if line), name
-            read = readings.read(text.encode()).decode()
-            refused = read.startswith("refused,")
-            assert refused == (topic == "turned-back"), name
-            if refused:
-                add("test_reports", read)
-                continue
-            assert searches.parse(text) == searches.parse(read), name
-            flows.append(Found(topic, name, text))
-            add("test_reports", flows[-1].report())
-            add("test_samples", flows[-1].samples())
+    for (topic, name, text), found in zip(cases, pool.starmap(searched, cases, chunksize=1)):
+        def add(crate, answer):
+            made[f"{crate}/data/{file_of(topic)}"] += f"{topic}/{name}\n{text}\n"
+            made[f"{crate}/stdout"] += f"{topic}/{name}\n{answer}"
+        if isinstance(found, str):
+            add("test_reports", found)
+            continue
+        flows.append(found)
+        add("test_reports", found.report())
+        add("test_samples", found.samples())
     return made, flows
 
 
 def main():
-    made, flows = files()
-    whole = [by_bounds(x) for x in flows]
-    bounded, listed = sum(whole), sum(map(by_tapes, flows))
+    with multiprocessing.Pool() as pool:
+        made, flows = files(pool)
+        whole = [by_bounds(x) for x in flows]
+        bounded, listed = sum(whole), sum(pool.map(by_tapes, flows, chunksize=1))
     # in these each record is farther out than the one before, without end, and so are the bounds
     assert [x.name for x, seen in zip(flows, whole) if x.wide and not seen] == ["again-above", "again-below"]
     # no bytes, and the other text of that flow: the one line of the report, and no samples
