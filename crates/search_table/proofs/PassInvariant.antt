@@ -130,7 +130,7 @@ module _ {w : ℕ} {places patterns distances : List ℕ} {ops : List Op} {e : E
   -- entry k stands at instruction i + 1: the other numbers stay
   module _ {k : ℕ} {cells : List ℕ} (f : Filling w places patterns distances ops e k cells) (i d r : ℕ) (b : Bool) (room : i < maxInstructions)
       (here : atOf (getD places k 0) ≡ i + 1) (takes : b ≡ takesOf w (getD ops i blank) (words (getD places k 0) (getD patterns k 0)) e)
-      (far : d ≡ getD distances k 0 + 1) (is : r ≡ cond (b && eqb (getD cells i 0) 0) d (getD cells i 0)) where
+      (is : r ≡ cond (b && eqb (getD cells i 0) 0) d (getD cells i 0)) (far : d ≡ getD distances k 0 + 1) where
     filling-by : (cells′ : List ℕ) → length cells′ ≡ length cells → getD cells′ i 0 ≡ r
         → ((j : ℕ) → (j ≡ i → ⊥) → getD cells′ j 0 ≡ getD cells j 0) → Filling w places patterns distances ops e (k + 1) cells′
     filling-by cells′ size new old =

@@ -81,15 +81,14 @@ filled c =
     let inv = l .before .loop .inv in
     let i = indexed u .index .ensures .1 in
     either
-    (λ t.
-    let far = ap (λ (d : ℕ). d + 1) (t .1 .ensures) in (
-      subst (Filling _ _ _ _ _ p-exit _) (sym (t .4)) (filling-more (inv .1) _ _ _ _ i (stands u) (exit-words _ _ _ refl (t .2 .ensures)) far (t .3 .ensures .0)),
-      subst (Filling _ _ _ _ _ m-exit _) (sym (t .5)) (filling-more (inv .2) _ _ _ _ i (stands u) (exit-words _ _ _ refl (t .2 .ensures)) far (t .3 .ensures .1)),
+    (λ t. (
+      subst (Filling _ _ _ _ _ p-exit _) (sym (t .4)) (filling-more (inv .1) _ _ _ _ i (stands u) (exit-words _ _ _ refl (t .2 .ensures)) (t .3 .ensures .0) (omega (arith, t .1 .ensures))),
+      subst (Filling _ _ _ _ _ m-exit _) (sym (t .5)) (filling-more (inv .2) _ _ _ _ i (stands u) (exit-words _ _ _ refl (t .2 .ensures)) (t .3 .ensures .1) (omega (arith, t .1 .ensures))),
     ))
     (λ t.
     let kept = none-left (start l .args .w) _ _ _ _ _ (sym (u .unlisted .ensures) ∙ t .0 .left) in (
-      subst (Filling _ _ _ _ _ p-exit _) (sym (t .1)) (filling-same (inv .1) _ _ _ _ i (stands u) refl refl (kept .0) refl),
-      subst (Filling _ _ _ _ _ m-exit _) (sym (t .2)) (filling-same (inv .2) _ _ _ _ i (stands u) refl refl (kept .1) refl),
+      subst (Filling _ _ _ _ _ p-exit _) (sym (t .1)) (filling-same (inv .1) _ _ _ _ i (stands u) refl (kept .0) refl refl),
+      subst (Filling _ _ _ _ _ m-exit _) (sym (t .2)) (filling-same (inv .2) _ _ _ _ i (stands u) refl (kept .1) refl refl),
     ))
     (c .if1 .came)
 
