@@ -19,9 +19,6 @@
  * TEXT. A text of no bytes is a flow: T = 1, no outputs, one variable and the single instruction `stop`. Pass text_len 0 and any pointer
  * that is not null; it is not read. If a text could not be read, do not call: a length of 0 means this flow.
  *
- * Line 1 may have a fifth field, the number of counters, 1 or 2. This flow leaves its loop when counter 1 reaches 3, so that exit m of
- * instruction 2 has distance 3: "flow,1,0,1,1\n1,up,1,2\n2,count,1,3,1,3\n3,stop\n".
- *
  * Every function answers for every text, number and row. It keeps no state, allocates no memory and prints nothing.
  *
  * RETURN VALUE. 0 is an answer. Any other value is a refusal, place * 256 + number (TILSANDO_PLACE, TILSANDO_NUMBER). A refusal leaves
@@ -54,19 +51,16 @@ extern "C" {
 #endif
 
 /* The version of this interface. It rises by 1 with each change after which a program must be changed or compiled anew. */
-#define TILSANDO_VERSION 6
+#define TILSANDO_VERSION 5
 
-/* The limits: bytes of a text; instructions, input tapes, output tapes, variables and counters of a flow; constants; the c of a `count`, which
- * begins at 0; steps of a run; cells used. */
+/* The limits: bytes of a text; instructions, input tapes, output tapes and variables of a flow; constants; steps of a run; cells used. */
 #define TILSANDO_BYTES 4096
 #define TILSANDO_INSTRUCTIONS 64
 #define TILSANDO_TAPES 3
 #define TILSANDO_OUTPUTS 3
 #define TILSANDO_VARIABLES 4
-#define TILSANDO_COUNTERS 2
 #define TILSANDO_LEAST_CONSTANT (-9999)
 #define TILSANDO_GREATEST_CONSTANT 9999
-#define TILSANDO_GREATEST_C 1000
 #define TILSANDO_STEPS 1000000
 #define TILSANDO_CELLS 65536
 
@@ -108,8 +102,8 @@ uint32_t tilsando_run(const uint8_t *text, size_t text_len, uint64_t limit,
 #define TILSANDO_BOUND_SIZE 1
 
 /* Says from the text alone how many cells are enough: a bound on the reachable configurations, which is the number of instructions, times 2
- * to the power T, times the number of patterns, times for each counter its largest c plus 1 (docs/FLOWS.md). With so many cells
- * tilsando_report and tilsando_sample never return refusal 9; with a row of so many records as well, tilsando_sample never returns 10.
+ * to the power T, times the number of patterns (docs/FLOWS.md). With so many cells tilsando_report and tilsando_sample never return refusal 9; with a row of so many records as well,
+ * tilsando_sample never returns 10.
  *   answer          the bound, from 1 to TILSANDO_CELLS. 0 says over: it exceeds TILSANDO_CELLS, and so many cells may or may not be enough */
 uint32_t tilsando_bound(const uint8_t *text, size_t text_len, uint64_t *answer, size_t answer_len);
 

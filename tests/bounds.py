@@ -1,13 +1,12 @@
 #!/usr/bin/env python3
-"""Flows with their bounds (document 02, T-01, and T-10 for counters), for the program `test_bounds`.
+"""Flows with their bounds (document 02, T-01), for the program `test_bounds`.
 
-A bound is worked out twice: by a listing of all instructions, sets of tapes, patterns and values of counters, where there are few enough,
-and by the formulas of T-01 and T-10. The reports, with as many cells as the bound says, are those of the plain searches of tests/searches.py,
-and the refusals of texts those of tests/readings.py; nothing comes from the crates. The files of crates/test_bounds are compared with what
-this script makes; with --write they are written. The reports stored in crates/test_reports are held to the bounds of their flows too.
+A bound is worked out twice: by a listing of all instructions, sets of tapes and patterns, where there are few enough, and by the formulas of
+T-01. The reports, with as many cells as the bound says, are those of the plain searches of tests/searches.py, and the refusals of texts those of
+tests/readings.py; nothing comes from the crates. The files of crates/test_bounds are compared with what this script makes; with --write they
+are written. The reports stored in crates/test_reports are held to the bounds of their flows too.
 """
 import itertools
-import math
 import sys
 
 import readings
@@ -18,7 +17,7 @@ import stored
 # "over" if a bound exceeds this
 MOST = 65536
 
-# ---- the bound by formula: T-01, T-10, and the reader of tests/searches.py
+# ---- the bound by formula: T-01, and the reader of tests/searches.py
 
 PATTERNS = {1: lambda w: w + 2, 2: lambda w: w ** 2 + 4 * w + 8, 3: lambda w: w ** 3 + 6 * w ** 2 + 24 * w + 44,
             4: lambda w: w ** 4 + 8 * w ** 3 + 48 * w ** 2 + 176 * w + 308}
@@ -26,17 +25,15 @@ PATTERNS = {1: lambda w: w + 2, 2: lambda w: w ** 2 + 4 * w + 8, 3: lambda w: w 
 
 def by_formula(text):
     """The bound of a legal text, also where it exceeds 65,536."""
-    t, v, z, program = searches.parse(text)
+    t, v, program = searches.parse(text)
     w = max(searches.constants(program)) - min(searches.constants(program)) + 1
-    largest = [max([x[2] for x in program.values() if x[:2] == ("count", k)], default=0) for k in range(1, z + 1)]
-    return len(program) * 2 ** t * PATTERNS[v](w) * math.prod(c + 1 for c in largest)
+    return len(program) * 2 ** t * PATTERNS[v](w)
 
 
-# ---- the bound by listing: document 01 ("Distances and configurations"), document 02 (T-10), and a reader of its own
+# ---- the bound by listing: document 01 ("Distances and configurations"), and a reader of its own
 
-# so many choices of values are listed at most, and so many of an instruction, a set of tapes and values of counters
+# so many choices of values are listed at most
 LISTED = 45000
-LISTED_PLACES = 100000
 SEEN = {}
 
 
@@ -61,25 +58,19 @@ def patterns(v, c1, c2):
 def by_listing(text):
     """The bound of a legal text; None if there are too many choices to list."""
     first, *rest = (text or "flow,1,0,1\n1,stop\n").rstrip("\n").split("\n")
-    tapes, _, v, *z = (int(x) for x in first.split(",")[1:])
-    basic, compared = [0], [[] for _ in range(sum(z))]
+    tapes, _, v = (int(x) for x in first.split(",")[1:])
+    basic = [0]
     for line in rest:
         fields = line.split(",")
         if fields[1] in ("set", "over"):
             basic.append(int(fields[2]))
         elif fields[1] == "under":
             basic.append(int(fields[3]))
-        elif fields[1] == "count":
-            compared[int(fields[2]) - 1].append(int(fields[3]))
     c1, c2 = sorted(basic)[0], sorted(basic)[-1]
     if (c2 - c1 + 1 + 2 * v) ** v > LISTED:
         return None
     ended = [set(chosen) for n in range(tapes + 1) for chosen in itertools.combinations(range(1, tapes + 1), n)]
-    # a counter that is 0, 1, 2 and so on, as far as c goes and beyond: those that are less than no number that it is compared with are one
-    counters = [{n if any(n < c for c in those) else "not less" for n in range(1003)} for those in compared]
-    if len(rest) * len(ended) * math.prod(map(len, counters)) > LISTED_PLACES:
-        return None
-    return sum(patterns(v, c1, c2) for _ in itertools.product(rest, ended, *counters))
+    return sum(patterns(v, c1, c2) for _ in rest for _ in ended)
 
 
 def pattern_numbers():
@@ -102,36 +93,29 @@ def case(topic, name, text):
     texts[name] = text
 
 
-def headed(t, outputs, v, z):
-    """The numbers of line 1; without counters there are three."""
-    return ",".join(map(str, [t, outputs, v] + [z] * (z > 0)))
-
-
-def sized(t, v, count, low, high, compared=()):
-    """So many instructions: a comparison with each of the two constants that is not 0, for each counter a comparison with its number, `nop`,
-    and where there is room a read and `stop`."""
+def sized(t, v, count, low, high):
+    """So many instructions: a comparison with each of the two constants that is not 0, `nop`, and where there is room a read and `stop`."""
     lines = [f"over,{low},{v},+,+"] * (low != 0) + [f"under,1,{high},+,+"] * (high != 0)
-    lines += [f"count,{k},{c},+,+" for k, c in enumerate(compared, 1)]
     if count > len(lines) + 1:
         lines.insert(0, f"read,{t},{v},+,+")
     lines += ["nop,+"] * (count - len(lines))
     lines[-1] = "stop" if lines[-1] == "nop,+" and count > 1 else lines[-1].replace("+", "1")
     assert len(lines) == count
-    return reports.flow(headed(t, 0, v, len(compared)), *lines)
+    return reports.flow(f"{t},0,{v}", *lines)
 
 
-def of_width(t, v, count, w, compared=()):
+def of_width(t, v, count, w):
     """The same with w numbers from C1 to C2, some of them below 0 if two instructions can be had for the constants."""
-    low = 0 if count == 1 + len(compared) else -9999 if w > 10000 else -((w - 1) // 3)
-    return sized(t, v, count, low, low + w - 1, compared)
+    low = 0 if count == 1 else -9999 if w > 10000 else -((w - 1) // 3)
+    return sized(t, v, count, low, low + w - 1)
 
 
-def ring(t, v, *lines, outputs=0, counters=0):
+def ring(t, v, *lines, outputs=0):
     """Reads of all tapes, to all variables, and then these lines. Both exits of each instruction lead to the next, and those of the last
     to the first; so every instruction is met with every set of ended tapes and every pattern, and K is the bound."""
     reads = [f"read,{i % t + 1},{i % v + 1}" for i in range(max(t, v))]
-    lines = [x + (",{0},{0}" if x.split(",")[0] in searches.TWO_EXITS else ",{0}") for x in [*reads, *lines]]
-    return reports.flow(headed(t, outputs, v, counters), *(x.format("+") for x in lines[:-1]), lines[-1].format(1))
+    lines = [x + (",{0},{0}" if x.split(",")[0] in ("read", "less", "over", "under") else ",{0}") for x in [*reads, *lines]]
+    return reports.flow(f"{t},{outputs},{v}", *(x.format("+") for x in lines[:-1]), lines[-1].format(1))
 
 
 # documents 01 and 02, and the flows of the folder flows/
@@ -281,95 +265,6 @@ for seed, (t, v, low, high) in enumerate([(1, 1, -9, 9), (2, 1, 0, 20), (3, 1, -
     for k in (1, 2, 3):
         case("chance", f"{t}-tapes-{v}-variables-{k}", reports.by_chance(dice, t, v, 4 + dice.below(7), low, high))
 
-# Counters: the bound is multiplied, for each of them, by its largest c plus 1, which is 1 if it has no `count` or c is 0
-A_LINES = ["read,1,1,2,3", "over,5,1,1,3", "stop"]
-for name, head, lines in [
-    ("stop-alone-1", "1,0,1,1", ["stop"]), ("stop-alone-2", "1,0,1,2", ["stop"]), ("stop-alone-of-most", "3,3,4,2", ["stop"]),
-    ("unused-1", "1,0,1,1", A_LINES), ("unused-2", "1,0,1,2", A_LINES),
-    ("only-up", "1,0,1,1", ["read,1,1,+,end", "up,1,1", "end: stop"]), ("only-zero", "1,0,1,2", ["read,1,1,+,end", "zero,2,1", "end: stop"]),
-    ("only-c-0", "1,0,1,1", ["read,1,1,+,end", "up,1,+", "count,1,0,1,1", "end: stop"]),
-    ("c-1", "1,0,1,1", ["up,1,+", "count,1,1,1,+", "stop"]), ("c-3", "1,0,1,1", ["up,1,+", "count,1,3,1,+", "stop"]),
-    ("c-1000", "1,0,1,1", ["up,1,+", "count,1,1000,1,+", "stop"]), ("c-1000-of-three-tapes", "3,0,1,1", ["up,1,+", "count,1,1000,1,1"]),
-    ("0-and-5", "1,0,1,1", ["count,1,0,end,+", "count,1,5,+,end", "up,1,1", "end: stop"]),
-    ("5-and-0", "1,0,1,1", ["count,1,5,+,end", "count,1,0,end,+", "up,1,1", "end: stop"]),
-    ("same-three-times", "1,0,1,1", ["count,1,5,+,end", "count,1,5,+,end", "up,1,+", "count,1,5,1,end", "end: stop"]),
-    ("unreached", "1,0,1,1", [*A_LINES, "count,1,9,1,1"]),
-    ("unreached-is-largest", "1,0,1,1", ["up,1,+", "count,1,4,1,+", "stop", "count,1,9,3,3"]),
-    ("unreached-is-smaller", "1,0,1,1", ["up,1,+", "count,1,9,1,+", "stop", "count,1,4,3,3"]),
-    ("first-of-two", "1,0,1,2", [*A_LINES, "count,1,9,1,1"]), ("second-of-two", "1,0,1,2", [*A_LINES, "count,2,9,1,1"]),
-    ("unreached-both", "1,0,1,2", [*A_LINES, "count,2,9,1,1", "count,1,5,1,1"]),
-    ("two", "1,0,1,2", ["up,1,+", "count,1,2,1,+", "up,2,+", "count,2,3,3,+", "stop"]),
-    ("two-and-0", "1,0,1,2", ["up,1,+", "count,1,2,1,+", "count,2,0,+,+", "stop"]),
-    ("two-0", "2,0,1,2", ["count,1,0,+,+", "count,2,0,+,+", "stop"]),
-    ("two-30-40", "1,0,1,2", ["up,1,+", "up,2,+", "count,1,30,1,+", "count,2,40,1,+", "stop"]),
-    # c is no constant, and a constant is no c
-    ("c-500-of-two-variables", "1,0,2,1", ["read,1,2,+,+", "count,1,500,+,+", "stop"]),
-    ("c-7-and-constant-9", "1,0,1,1", ["read,1,1,+,+", "over,9,1,+,+", "up,1,+", "count,1,7,1,+", "stop"]),
-    ("c-9-and-constant-7", "1,0,1,1", ["read,1,1,+,+", "under,1,-7,+,+", "up,1,+", "count,1,9,1,+", "stop"]),
-    ("constant-1000-and-c-2", "1,0,1,1", ["read,1,1,+,end", "set,1000,1,+", "up,1,+", "count,1,2,1,+", "end: stop"]),
-    ("four-variables-c-19", "1,0,4,1", ["read,1,4,+,+", "count,1,19,+,+", "stop"]),
-]:
-    case("counters", name, reports.flow(head, *lines))
-for name in ("nested-3-2", "parity", "three-records", "two-tapes", "same-key-four-times", "zero-after-the-largest", "unreached-5"):
-    case("counters", name, reports.TOPICS["counters"][name])
-# exactly 65,536 through the factor, and next to it
-for name, drawn in [("c-511-and-3", (1, 1, 4, 2, (511, 3))), ("c-127", (2, 1, 8, 14, (127,))), ("c-31-of-three-tapes", (3, 1, 64, 2, (31,))),
-                    ("c-7-and-7", (3, 1, 4, 30, (7, 7))), ("c-0", (1, 1, 64, 510, (0,))), ("c-0-and-1", (2, 1, 64, 126, (0, 1)))]:
-    case("65536", name, of_width(*drawn))
-COUNTED_NEXT = {"2-less-c-150": (1, 1, 7, 29, (150,), 65534), "2-more-c-10-and-330": (1, 1, 3, 1, (10, 330), 65538),
-                "4-more-c-112": (2, 2, 5, 3, (112,), 65540), "2-more-c-330-and-10": (1, 1, 3, 1, (330, 10), 65538)}
-for name, (*drawn, _) in COUNTED_NEXT.items():
-    case("next", name, of_width(*drawn))
-# the greatest c with which the bound is given, and one more; before it the c of another counter, if there is one
-COUNTED_BORDERS = [((2, 2, 5, 3), (), 111), ((3, 3, 4, 1), (), 26), ((1, 4, 2, 1), (), 29), ((3, 4, 3, 1), (), 4), ((3, 1, 64, 1), (), 41),
-                   ((1, 2, 6, 10), (), 35), ((1, 1, 4, 3), (19,), 80), ((2, 1, 5, 2), (8,), 90), ((3, 2, 6, 2), (3,), 16),
-                   ((1, 1, 3, 1), (999,), 2)]
-for drawn, before, c in COUNTED_BORDERS:
-    name = "-".join(map(str, ["c", *drawn, *before]))
-    case("border", name, of_width(*drawn, (*before, c)))
-    case("over", name, of_width(*drawn, (*before, c + 1)))
-    # and if the counters change places
-    if before:
-        case("border", f"{name}-exchanged", of_width(*drawn, (c, *before)))
-        case("over", f"{name}-exchanged", of_width(*drawn, (c + 1, *before)))
-# over by far; the factor alone is more than 65,536
-case("over", "c-1000-and-1000", sized(1, 1, 3, 0, 0, (1000, 1000)))
-case("over", "c-1000-and-1000-few-configurations", reports.flow("1,0,1,2", "stop", "count,1,1000,1,1", "count,2,1000,1,1"))
-case("over", "c-255-and-255", sized(1, 1, 3, 0, 0, (255, 255)))
-case("over", "c-1000-of-four", sized(1, 4, 2, 0, 0, (1000,)))
-case("over", "unused-and-many", of_width(1, 1, 4, 16382, (0, 0)))
-# past 64 bits and past 80
-BITS = {"64-bits-of-three-variables": (64, 3, 3, 64, 19999, (1000, 1000)), "64-bits-by-one-counter": (64, 2, 4, 30, 10000, (1000,)),
-        "64-bits-by-the-second": (64, 1, 4, 5, 9000, (400, 1000)), "80-bits": (80, 3, 4, 64, 12000, (1000, 1000)),
-        "80-bits-greatest-of-all": (80, 3, 4, 64, 19999, (1000, 1000)), "80-bits-of-8-instructions": (80, 3, 4, 8, 19999, (1000, 1000))}
-for name, (_, *drawn) in BITS.items():
-    case("over", name, of_width(*drawn))
-# 65,536 or less if the product were kept in 32 bits; of the first two nothing would be left
-for drawn in [(3, 1, 64, 30, (511, 511)), (1, 1, 64, 126, (511, 511)), (1, 1, 26, 6473, (934, 381)), (3, 1, 17, 13211, (250, 637)),
-              (2, 2, 31, 4089, (951,)), (3, 2, 52, 12016, (621, 114)), (2, 3, 19, 6809, (438,)), (1, 3, 8, 19291, (862, 973)),
-              (2, 4, 14, 5278, (135,)), (1, 4, 42, 6044, (628, 292))]:
-    case("32-bits", "-".join(map(str, ["c", *drawn[:-1], *drawn[-1]])), of_width(*drawn))
-COUNTED_SIGNED = {"c-1000-of-one-variable": (32, 3, 1, 64, 4200, (1000,)), "c-1000-and-1000-of-two-variables": (32, 1, 2, 6, 60, (1000, 1000)),
-                  "c-1000-and-900-of-three-variables": (64, 3, 3, 60, 12000, (1000, 900)),
-                  "c-1000-and-1000-of-four-variables": (64, 2, 4, 9, 1500, (1000, 1000))}
-for name, (_, *drawn) in COUNTED_SIGNED.items():
-    case("below-0", name, of_width(*drawn))
-# K is the bound. With a c above 0 it is less: `up` makes two values of a counter one, and after the ends of all tapes nothing parts them.
-case("equal", "counter-only-up", ring(1, 1, "up,1", counters=1))
-case("equal", "counters-never-compared", ring(2, 2, "up,2", "over,3,1", "zero,1", "up,1", counters=2))
-case("equal", "counters-c-0", ring(3, 1, "up,1", "count,1,0", "zero,2", "count,2,0", "under,1,4", counters=2))
-case("equal", "65536-with-a-counter", ring(1, 1, "over,8189,1", "up,1", "count,1,0", counters=1))
-# K is far below
-case("far-below", "c-1000", reports.flow("3,0,1,1", "count,1,1000,+,+", "stop"))
-case("far-below", "c-60-and-60", reports.flow("1,0,1,2", "count,1,60,+,+", "count,2,60,1,1"))
-case("far-below", "loops-20-20", reports.nested(20, 20))
-# by chance
-for seed, (t, v, low, high, compared) in enumerate([(1, 1, -4, 4, ([1, 2, 5],)), (2, 1, 0, 2, ([0, 3], [1, 2])), (1, 2, -1, 1, ([2, 4, 6],)),
-                                                    (3, 1, 0, 1, ([1, 10],)), (1, 3, 0, 0, ([1, 2], [3]))], 200):
-    dice = reports.Dice(seed)
-    for k in (1, 2, 3):
-        case("chance", f"{t}-tapes-{v}-variables-{len(compared)}-counters-{k}", reports.counting(dice, t, v, (4, 10), low, high, compared))
-
 # The texts that are turned back, with their refusals by hand; no empty line can be among them. A text with a bound past 65,536 is turned
 # back too. The last of all texts has no byte 10 at its end, and nothing stands after it.
 FLOW_A = reports.TOPICS["document"]["a"]
@@ -389,13 +284,7 @@ for name, refusal, text in [
     ("line-66-faulty", "8,66", MANY + "x\n"),
     ("word", "13,2", "flow,1,0,1\n1,halt\n"), ("word-of-line-1", "13,1", "bound,1,0,1\n1,stop\n"),
     ("word-of-many", "13,65", MANY.replace("64,stop", "64,stops")),
-    ("count", "14,2", "flow,1,0,1\n1,nop\n"), ("count-of-line-1", "14,1", "flow,1,0\n1,stop\n"),
-    ("counters-0", "5,1", "flow,1,0,1,0\n1,stop\n"), ("counters-3", "5,1", "flow,1,0,1,3\n1,stop\n"),
-    ("counters-empty", "15,1", "flow,1,0,1,\n1,stop\n"),
-    ("counters-and-more", "14,1", "flow,1,0,1,1,1\n1,stop\n"), ("counters-alone", "8,2", "flow,1,0,1,1\n"),
-    ("counter-of-none", "5,2", "flow,1,0,1\n1,up,1,1\n"), ("counter-2-of-1", "5,2", "flow,1,0,4,1\n1,count,2,5,1,1\n"),
-    ("c-1001", "5,3", "flow,1,0,1,1\n1,stop\n2,count,1,1001,1,1\n"), ("c-minus-1", "15,2", "flow,1,0,1,2\n1,count,2,-1,1,1\n"),
-    ("c-minus-0", "15,2", "flow,1,0,1,1\n1,count,1,-0,1,1\n"), ("count-target", "7,2", "flow,1,0,1,1\n1,count,1,5,2,1\n"),
+    ("count", "14,2", "flow,1,0,1\n1,nop\n"), ("count-of-line-1", "14,1", "flow,1,0\n1,stop\n"), ("counters", "14,1", "flow,1,0,1,1\n1,stop\n"),
     ("number", "15,2", "flow,1,0,1\n1,nop,01\n"), ("minus-0", "15,2", "flow,1,0,1\n1,set,-0,1,1\n"),
     ("number-of-line-1", "15,1", "flow,1,0,x\n1,stop\n"),
     ("no-last-byte-10", "3,0", FLOW_A[:-1]),
@@ -423,20 +312,6 @@ BY_HAND = {
     "constants/targets-64": 64 * 2 * 3, "constants/tape-3": 2 * 8 * 3, "constants/9999": 3 * 2 * 10002,
     "over/greatest-of-all": None, "over/few-configurations": None, "over/two-to-the-power-17": None,
     "equal/one-read": 6, "equal/four-variables-w-5": 5 * 2 * 4013, "equal/3-tapes-4-variables": 4 * 8 * 541,
-    "counters/stop-alone-1": 6, "counters/stop-alone-2": 6, "counters/stop-alone-of-most": 8 * 541,
-    "counters/unused-1": 48, "counters/unused-2": 48, "counters/only-up": 3 * 2 * 3, "counters/only-zero": 3 * 2 * 3,
-    "counters/only-c-0": 4 * 2 * 3, "counters/c-1": 3 * 2 * 3 * 2, "counters/c-3": 3 * 2 * 3 * 4, "counters/c-1000": 3 * 2 * 3 * 1001,
-    "counters/c-1000-of-three-tapes": 2 * 8 * 3 * 1001,
-    "counters/0-and-5": 4 * 2 * 3 * 6, "counters/5-and-0": 4 * 2 * 3 * 6, "counters/same-three-times": 5 * 2 * 3 * 6,
-    "counters/unreached": 4 * 2 * 8 * 10, "counters/unreached-is-largest": 4 * 2 * 3 * 10, "counters/unreached-is-smaller": 4 * 2 * 3 * 10,
-    "counters/first-of-two": 4 * 2 * 8 * 10, "counters/second-of-two": 4 * 2 * 8 * 10, "counters/unreached-both": 5 * 2 * 8 * 10 * 6,
-    "counters/two": 5 * 2 * 3 * 3 * 4, "counters/two-and-0": 4 * 2 * 3 * 3, "counters/two-0": 3 * 4 * 3,
-    "counters/two-30-40": 5 * 2 * 3 * 31 * 41, "counters/c-500-of-two-variables": 3 * 2 * 13 * 501,
-    "counters/c-7-and-constant-9": 5 * 2 * 12 * 8, "counters/c-9-and-constant-7": 5 * 2 * 10 * 10,
-    "counters/constant-1000-and-c-2": 5 * 2 * 1003 * 3, "counters/four-variables-c-19": 3 * 2 * 541 * 20,
-    "counters/nested-3-2": 6 * 2 * 3 * 4 * 3, "counters/parity": 9 * 2 * 3 * 2 * 5, "counters/three-records": 5 * 2 * 3 * 4,
-    "over/c-1000-and-1000": None, "over/c-1000-and-1000-few-configurations": None, "over/c-255-and-255": None, "over/c-1000-of-four": None,
-    "over/unused-and-many": None, "over/80-bits-greatest-of-all": None, "equal/counters-c-0": 8 * 8 * 7, "far-below/c-1000": 2 * 8 * 3 * 1001,
 }
 
 
@@ -461,8 +336,8 @@ class Found:
     def lines(self):
         if self.over:
             return "bound,over\n"
-        program = searches.parse(self.text)[3]
-        two = [i for i, x in program.items() if x[0] in searches.TWO_EXITS]
+        program = searches.parse(self.text)[2]
+        two = [i for i, x in program.items() if x[0] in ("read", "less", "over", "under")]
         told = "".join(f"{i},{side},{self.exits.get((i, side), 'none')}\n" for i in two for side in "pm")
         return f"bound,{self.bound}\nreport,{len(program)},{self.count}\n{told}"
 
@@ -501,17 +376,12 @@ def by_topic(flows):
     named = {x.name: x for x in flows}
     for name, bound in BY_HAND.items():
         assert (None if named[name].over else named[name].bound) == bound, f"{name}: {named[name].bound}, by hand {bound}"
-    for name, (*_, bound) in [*NEXT.items(), *COUNTED_NEXT.items()]:
+    for name, (*_, bound) in NEXT.items():
         assert named[f"next/{name}"].bound == bound, name
     for t, v, count in BORDERS:
         name = f"{t}-tapes-{v}-variables-{count}-instructions"
         assert named[f"border/{name}"].bound <= MOST < named[f"over/{name}"].bound, name
-    for drawn, before, _ in COUNTED_BORDERS:
-        name = "-".join(map(str, ["c", *drawn, *before]))
-        assert named[f"border/{name}"].bound <= MOST < named[f"over/{name}"].bound, name
-    for name, (bits, *_) in BITS.items():
-        assert 2 ** bits < named[f"over/{name}"].bound < 2 ** (80 if bits == 64 else 87), name
-    for name, (bits, *_) in [*SIGNED.items(), *COUNTED_SIGNED.items()]:
+    for name, (bits, *_) in SIGNED.items():
         assert named[f"below-0/{name}"].bound % 2 ** bits >= 2 ** (bits - 1), name
     for x in flows:
         told = f"{x.name}: the bound is {x.bound}"

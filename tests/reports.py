@@ -50,11 +50,11 @@ def flow(head, *lines):
 
 def chain(head, *lines):
     """Instructions in a chain: each p leads to the next, every m and the last p to stop."""
-    return flow(head, *(x + (",+,end" if x.split(",")[0] in searches.TWO_EXITS else ",+") for x in lines), "end: stop")
+    return flow(head, *(x + (",+" if x.split(",")[0] in ("set", "copy", "nop", "put") else ",+,end") for x in lines), "end: stop")
 
 
 # how many targets a line ends with; 1 for the words that are not here
-TARGETS = {"read": 2, "less": 2, "over": 2, "under": 2, "count": 2, "stop": 0}
+TARGETS = {"read": 2, "less": 2, "over": 2, "under": 2, "stop": 0}
 
 
 def later(nops, text):
@@ -171,9 +171,7 @@ case("shapes", "every-word", flow("2,1,2", "read,2,1,+,end", "put,1,1,+", "copy,
 # the texts that are turned back
 for name, text in [("word", "flow,1,0,1\n1,halt\n"), ("count", "flow,1,0,1\n1,nop\n"), ("number", "flow,1,0,1\n1,nop,01\n"),
                    ("turn", "flow,1,0,1\n2,stop\n"), ("range", "flow,1,0,1\n1,set,10000,1,1\n"), ("target", "flow,1,0,1\n1,nop,2\n"),
-                   ("only-line-1", "flow,1,0,1\n"), ("tapes", "flow,4,0,1\n1,stop\n"), ("counters", "flow,1,0,1,3\n1,stop\n"),
-                   ("counter-of-none", "flow,1,0,1\n1,up,1,1\n"), ("c-1001", "flow,1,0,1,1\n1,count,1,1001,1,1\n"),
-                   ("c-minus", "flow,1,0,1,1\n1,count,1,-1,1,1\n")]:
+                   ("only-line-1", "flow,1,0,1\n"), ("tapes", "flow,4,0,1\n1,stop\n")]:
     case("turned-back", name, text)
 
 
@@ -222,7 +220,7 @@ case("constants-9999", "unreached-without-read", flow("1,0,1", "over,-9999,1,+,e
      "set,9999,1,1", "set,-9999,1,1"))
 
 
-# ---- long distances: numbers in variables. A variable is a digit; one more is `set`, and after the last digit the next variable is due.
+# ---- long distances: counters. A variable is a digit; one more is `set`, and after the last digit the next variable is due.
 
 def counter(bases, first=1, loop="again", out="out"):
     """One more, in variables that start at `first`: then to `loop`, and to `out` if all were at their last digit. A base may be
@@ -310,9 +308,8 @@ class Dice:
         return choices[self.below(len(choices))]
 
 
-def by_chance(dice, tapes, variables, count, low, high, compared=()):
-    """A flow that mostly goes forward, with a `stop` at its end. With numbers to compare them with there are counters, one for each list; the
-    exit p of a `count` mostly goes back."""
+def by_chance(dice, tapes, variables, count, low, high):
+    """A flow that mostly goes forward, with a `stop` at its end."""
     def variable():
         return 1 + dice.below(variables)
 
@@ -320,47 +317,20 @@ def by_chance(dice, tapes, variables, count, low, high, compared=()):
         return i + 1 if dice.below(3) else dice.of(1 + dice.below(count), i + 1 + dice.below(count - i))
 
     def line(i):
-        words = ["read", "read", "read", "less", "less", "less", "over", "under", "set", "copy", "put", "nop"]
-        if compared:
-            words = ["read", "read", "less", "over", "under", "set", "copy", "zero", "up", "up", "up", "count", "count", "count"]
-        word = dice.of(*words) if i > 1 else dice.of("read", "up") if compared else "read"
-        if word in ("zero", "up", "count"):
-            z = dice.below(len(compared))
-            fields = [1 + z, dice.of(*compared[z])] if word == "count" else [1 + z]
-        else:
-            c = low + dice.below(high - low + 1)
-            fields = {"read": [1 + dice.below(tapes), variable()], "put": [variable(), 1], "copy": [variable(), variable()],
-                      "set": [c, variable()], "less": [variable(), variable()], "over": [c, variable()], "under": [variable(), c],
-                      "nop": []}[word]
-        targets = [target(i) for _ in range(TARGETS.get(word, 1))]
-        if word == "count" and dice.below(3):
-            targets[0] = 1 + dice.below(i)
-        return ",".join(map(str, [word] + fields + targets))
+        word = dice.of("read", "read", "read", "less", "less", "less", "over", "under", "set", "copy", "put", "nop") if i > 1 else "read"
+        c = low + dice.below(high - low + 1)
+        fields = {"read": [1 + dice.below(tapes), variable()], "put": [variable(), 1], "copy": [variable(), variable()], "set": [c, variable()],
+                  "less": [variable(), variable()], "over": [c, variable()], "under": [variable(), c], "nop": []}[word]
+        return ",".join(map(str, [word] + fields + [target(i) for _ in range(2 if word in ("read", "less", "over", "under") else 1)]))
 
-    counters = f",{len(compared)}" if compared else ""
-    return flow(f"{tapes},1,{variables}{counters}", *(line(i) for i in range(1, count)), "stop")
+    return flow(f"{tapes},1,{variables}", *(line(i) for i in range(1, count)), "stop")
 
 
-def some(topic, number, seed, tapes, variables, counts, low, high, compared=()):
+def some(topic, number, seed, tapes, variables, counts, low, high):
     dice = Dice(seed)
     for k in range(1, number + 1):
         count = counts[0] + dice.below(counts[1] - counts[0] + 1)
-        case(topic, f"{k:02}", by_chance(dice, tapes, variables, count, low, high, compared))
-
-
-def counting(dice, tapes, variables, counts, low, high, compared):
-    """The first flow with counters by chance of which some `count` takes both exits."""
-    while True:
-        text = by_chance(dice, tapes, variables, counts[0] + dice.below(counts[1] - counts[0] + 1), low, high, compared)
-        exits = (searches.configurations(text, CELLS["wide"]) or (0, {}))[1]
-        if any({(i, "p"), (i, "m")} <= exits.keys() for i, x in searches.parse(text)[3].items() if x[0] == "count"):
-            return text
-
-
-def some_counting(topic, number, seed, *drawn):
-    dice = Dice(seed)
-    for k in range(1, number + 1):
-        case(topic, f"{k:02}", counting(dice, *drawn))
+        case(topic, f"{k:02}", by_chance(dice, tapes, variables, count, low, high))
 
 
 some("chance-small", 30, 1, 1, 2, (5, 9), -1, 1)
@@ -386,8 +356,7 @@ def patient(head, *lines, constants=()):
             return f"{line[4:]},{i},+"
         if line.startswith("both "):
             return f"{line[5:]},+,+"
-        word = line.split(",")[0]
-        return line + (",+,end" if word == "read" else f",+,{i}" if word in searches.TWO_EXITS else ",+")
+        return line + {"read": ",+,end", "less": f",+,{i}", "over": f",+,{i}", "under": f",+,{i}"}.get(line.split(",")[0], ",+")
     return flow(head, *(on(i, x) for i, x in enumerate(lines, 1)), "end: stop", *unreached(*constants))
 
 
@@ -690,109 +659,6 @@ case("wide-exits", "row-4096", flow("1,0,4", *(x.replace("again", "more") for x 
      *["less,1,1,+,+"] * 7, "stop"))
 
 
-# ---- counters (T-10)
-
-def nested(outer, inner, *more):
-    """A loop of counter 1 around a loop of counter 2, and then these lines."""
-    return flow("1,0,1,2", "again: up,1,+", "zero,2,+", "more: up,2,+", f"count,2,{inner},more,+", f"count,1,{outer},again,+", *more, "stop")
-
-
-def records(c, *constants):
-    """Records are counted; after c of them the run leaves its loop."""
-    return flow("1,0,1,1", "read,1,1,+,end", "up,1,+", f"count,1,{c},1,+", "less,1,1,end,end", "end: stop", *unreached(*constants))
-
-
-def two_loops(one, two):
-    """The records of tape 1 are counted, then those of tape 2, each up to its end."""
-    return flow("2,0,1,2", "read,1,1,+,second", "up,1,1", "second: read,2,1,+,out", "up,2,second", f"out: count,1,{one},end,+",
-                f"count,2,{two},end,end", "end: stop")
-
-
-# a loop that is left when the counter reaches c; the counter is compared after it rises, or before
-for c in (1, 2, 3, 10, 1000):
-    case("counters", f"loop-{c}", flow("1,0,1,1", "up,1,+", f"count,1,{c},1,+", "stop"))
-for c in (0, 1, 3):
-    case("counters", f"compared-first-{c}", flow("1,0,1,1", f"count,1,{c},+,end", "up,1,1", "end: stop"))
-# one counter and several numbers
-case("counters", "0-and-5", flow("1,0,1,1", "count,1,0,end,+", "count,1,5,+,end", "up,1,1", "end: stop"))
-case("counters", "5-and-0", flow("1,0,1,1", "count,1,5,+,end", "up,1,+", "count,1,0,+,1", "less,1,1,end,end", "end: stop"))
-case("counters", "3-5-4", flow("1,0,1,1", "again: up,1,+", "count,1,3,again,+", "count,1,5,again,+", "count,1,4,+,end", "less,1,1,end,end",
-     "end: stop"))
-case("counters", "999-and-1000", flow("1,0,1,1", "up,1,+", "count,1,999,1,+", "count,1,1000,+,never", "up,1,+", "count,1,1000,never,end",
-     "never: less,1,1,end,end", "end: stop"))
-# `zero` and `up` add nothing to a distance
-for ups in (9, 10):
-    case("counters", f"{ups}-ups", flow("1,0,1,1", *["up,1,+"] * ups, "count,1,10,+,+", "stop"))
-case("counters", "62-ups", flow("1,0,1,1", *["up,1,+"] * 62, "count,1,63,1,+", "stop"))
-case("counters", "met-by-an-exit-first", flow("1,0,1,1", "read,1,1,+,end", "over,0,1,+,long", "set,0,1,+", "up,1,+", "up,1,+",
-     "count,1,2,end,goal", "long: set,0,1,+", "up,1,+", "up,1,+", "up,1,+", "goal: read,1,1,+,+", "count,1,1,end,end", "end: stop"))
-# flow A with a counter that is not used, or with two; and counters that are never compared
-for z in (1, 2):
-    case("counters", f"unused-{z}", flow(f"1,0,1,{z}", "read,1,1,2,3", "over,5,1,1,3", "stop"))
-case("counters", "rises-for-ever", flow("1,0,1,1", "up,1,1"))
-case("counters", "rises-with-records", flow("1,0,1,1", "read,1,1,+,3", "up,1,1", "stop"))
-case("counters", "zero-and-up", flow("1,0,1,2", "read,1,1,+,end", "up,2,+", "zero,2,+", "zero,1,1", "end: stop"))
-# from its largest c upward a counter stays as it is; `zero` brings it back from there
-case("counters", "compared-for-ever", flow("1,0,1,1", "up,1,+", "count,1,2,1,1"))
-case("counters", "equal-targets", flow("1,0,1,1", "count,1,2,2,2", "up,1,1"))
-case("counters", "zero-after-the-largest", flow("1,0,1,1", *["up,1,+"] * 3, "count,1,2,end,+", "zero,1,+", "count,1,1,+,end", "up,1,+",
-     "count,1,2,+,end", "end: stop"))
-case("counters", "m-before-p", flow("1,0,1,1", "up,1,+", "again: count,1,1,end,+", "zero,1,again", "end: stop"))
-AT_ONE = ["read,1,1,+,end", "over,0,1,+,one", "up,1,+", "one: up,1,+", "set,0,1,+", "count,1,1,end,end", "end: stop"]
-case("counters", "one-or-two", flow("1,0,1,1", *AT_ONE))
-case("counters", "one-or-two-and-2", flow("1,0,1,1", *AT_ONE, "count,1,2,end,end"))
-# the largest c may stand on a line that is never reached
-case("counters", "unreached-5", flow("1,0,1,1", "read,1,1,+,end", "up,1,1", "count,1,5,1,1", "end: stop"))
-case("counters", "unreached-0", flow("1,0,1,1", "read,1,1,+,end", "up,1,1", "count,1,0,1,1", "end: stop"))
-case("counters", "unreached-of-the-other", flow("1,0,1,2", "read,1,1,+,end", "up,1,1", "count,2,5,1,1", "end: stop"))
-case("counters", "behind-stop", flow("1,0,1,1", "stop", "up,1,+", "count,1,7,2,1"))
-# two counters
-case("counters", "two-in-turn", flow("1,0,1,2", "up,1,+", "count,1,2,1,+", "up,2,+", "count,2,3,3,+", "stop"))
-case("counters", "two-together", flow("1,0,1,2", "up,1,+", "up,2,+", "count,1,2,1,+", "count,2,2,+,+", "stop"))
-case("counters", "two-together-1000", flow("1,0,1,2", "up,2,+", "up,1,+", "count,2,1000,1,+", "count,1,1000,+,+", "stop"))
-case("counters", "one-of-two", flow("1,0,1,2", "up,1,+", "count,2,1,+,never", "count,1,1,never,end", "never: less,1,1,end,end", "end: stop"))
-case("counters", "zero-of-one", flow("1,0,1,2", "up,1,+", "up,2,+", "zero,1,+", "count,1,1,+,end", "count,2,1,end,+", "up,1,+", "zero,2,+",
-     "count,2,1,+,end", "count,1,1,end,end", "end: stop"))
-case("counters", "nested-3-2", nested(3, 2))
-case("counters", "parity", flow("1,0,1,2", "again: read,1,1,+,end", "up,2,+", "count,1,1,odd,even", "odd: up,1,test", "even: zero,1,+",
-     "test: count,2,4,again,+", "count,1,1,end,+", "less,1,1,end,end", "end: stop"))
-# with records and comparisons; some exits are none because of a counter alone
-case("counters", "three-records", records(3))
-case("counters", "two-over-1", flow("1,0,1,1", "read,1,1,+,end", "over,1,1,+,1", "up,1,+", "count,1,2,1,end", "end: stop"))
-case("counters", "after-the-end", flow("1,0,1,1", "read,1,1,+,3", "up,1,1", "count,1,2,end,+", "count,1,3,end,end", "end: stop"))
-for word in ("zero,1", "nop"):
-    case("counters", f"back-by-{word.split(',')[0]}", flow("1,0,1,1", "up,1,+", "count,1,2,+,5", f"{word},+", "read,1,1,1,end",
-         "less,1,1,end,end", "end: stop"))
-case("counters", "page-of-three", flow("1,2,1,1", "head: put,1,2,+", "zero,1,+", "line: read,1,1,+,end", "put,1,1,+", "up,1,+",
-     "count,1,3,line,head", "end: stop"))
-case("counters", "two-tapes", two_loops(2, 1))
-case("counters", "rising-three", flow("1,0,2,1", "read,1,1,+,end", "again: read,1,2,+,end", "less,1,2,+,out", "copy,2,1,+", "up,1,+",
-     "count,1,3,again,+", "over,2,1,end,never", "out: zero,1,again", "never: nop,end", "end: stop"))
-case("counters", "same-key-four-times", flow("1,1,2,2", "read,1,1,+,end", "key: zero,1,+", "again: up,1,+", "read,1,2,+,end", "less,1,2,new,+",
-     "less,2,1,end,+", "count,1,4,again,end", "new: copy,2,1,+", "up,2,+", "count,2,2,key,+", "count,1,3,end,key", "end: stop"))
-# exactly as many configurations as cells, and one more
-case("counters", "loop-819-4096", flow("1,0,1,1", "up,1,+", *["nop,+"] * 3, "count,1,819,1,+", "stop"))
-case("counters", "loop-512-4097", flow("1,0,1,1", "up,1,+", *["nop,+"] * 6, "count,1,512,1,+", "stop"))
-limit("nested-15-135", nested(15, 135), 4096, "counters")
-limit("unreached-454", flow("1,0,1,1", "read,1,1,+,end", "up,1,1", "count,1,454,1,1", "end: stop"), 4091, "counters")
-case("counters", "nested-46-46-4371", nested(46, 46))
-
-# with 65,536 cells
-case("wide-counters", "records-1000", records(1000))
-case("wide-counters", "records-1-9999", records(1, 9999))
-case("wide-counters", "nested-30-1000", nested(30, 1000))
-case("wide-counters", "nested-1000-1000", nested(1000, 1000))
-case("wide-counters", "two-tapes", two_loops(60, 60))
-limit("nested-85-384", nested(85, 384), 65536, "wide-counters")
-# 4,096 exits are as many as the record row has cells
-case("wide-counters", "row", nested(64, 63, "count,1,1,+,+", "count,2,1,+,+"))
-
-some_counting("chance-counter", 25, 10, 1, 1, (5, 9), -1, 1, ([1, 2, 3],))
-some_counting("chance-two-counters", 25, 11, 1, 2, (7, 11), 0, 1, ([0, 1, 2], [1, 3]))
-some_counting("wide-chance-counters", 40, 12, 2, 1, (8, 16), 0, 2, ([2, 4, 7], [1, 3]))
-some_counting("wide-chance-counters-far", 10, 13, 1, 1, (6, 9), -5, 5, ([10, 100, 1000],))
-
-
 # ---- flows with instructions `nop` more: each distance stays
 
 def padded(dice, text, more):
@@ -832,7 +698,6 @@ for seed, (topic, name, more) in enumerate([
     ("used", "least-and-greatest", 40), ("used", "merge-of-three", 12), ("ends", "which-came-first", 30), ("gaps", "nearer-again-above", 25),
     ("long", "checked-3-3", 30), ("long", "climbing-4", 30), ("chance-two-tapes", "07", 40), ("chance-three-tapes", "05", 30),
     ("chance-four-variables", "07", 12), ("nine", "like-pairs", 20), ("exits", "met-by-an-exit-first", 50),
-    ("counters", "nested-3-2", 40), ("counters", "parity", 30), ("counters", "three-records", 20), ("chance-two-counters", "07", 12),
 ], 1000):
     text, number = padded(Dice(seed), TOPICS[topic][name], more)
     PADDED[f"{topic}-{name}"] = f"{topic}/{name}", number
@@ -848,12 +713,12 @@ class Found:
         self.topic, self.name, self.text = topic, name, text
         self.wide = file_of(topic) == "wide"
         self.cells = CELLS[file_of(topic)]
-        self.counters, self.program = searches.parse(text)[2:]
+        self.program = searches.parse(text)[2]
         self.count, self.exits = searches.configurations(text, self.cells) or (None, None)
 
     def lines(self, told):
         """A line for each exit, by number: what is told of its distance, None for none."""
-        two = [i for i, x in self.program.items() if x[0] in searches.TWO_EXITS]
+        two = [i for i, x in self.program.items() if x[0] in ("read", "less", "over", "under")]
         return "".join(f"{i},{side},{told(self.exits and self.exits.get((i, side)))}\n" for i in two for side in "pm")
 
     def report(self):
@@ -869,7 +734,7 @@ class Found:
 
 def by_bounds(found):
     """Holds the second search to the first: the same distances; and whether it saw all, so that each none is one there too."""
-    exits, whole = searches.bounds(found.text, 70000 if found.counters else 8000)
+    exits, whole = searches.bounds(found.text, 8000)
     assert found.exits in (None, exits), found.name
     return whole
 
@@ -877,38 +742,16 @@ def by_bounds(found):
 def by_tapes(found):
     """Holds the third search to the first, where few tapes are many enough: no exit sooner and no configuration more; and whether
     it came to the same distances and the same configurations. Of a wide flow only tapes of one record are few enough, and only
-    those with one variable are looked at. Flows with counters need more steps, and more records; one without a read is run once, on
-    empty tapes, as long as something new can come."""
-    t, v, z, program = searches.parse(found.text)
+    those with one variable are looked at."""
+    t, v, program = searches.parse(found.text)
     values = max(searches.constants(program)) - min(searches.constants(program)) + 1 + 2 * v
-    most, least, longest, steps = (800, 1, 8, 60) if z else (20002, 1, 4, 9) if found.wide else (1500, 2, 4, 25)
-    length = max(n for n in range(longest + 1) if sum(values ** k for k in range(n + 1)) ** t <= most)
+    most, least, steps = (20002, 1, 9) if found.wide else (1500, 2, 25)
+    length = max(n for n in range(5) if sum(values ** k for k in range(n + 1)) ** t <= most)
     if found.exits is None or length < least or found.wide and v > 1:
         return False
-    if z and all(x[0] != "read" for x in program.values()):
-        length, steps = 0, found.count
     count, exits = searches.tapes(found.text, length, v, steps)
     assert count <= found.count and all(found.exits[x] <= exits[x] for x in exits), found.name
     return (count, exits) == (found.count, found.exits)
-
-
-def by_counters(found):
-    """Holds the report of a flow of few configurations to that of the flow with more counters, which it does not use: the same. And the report
-    of a flow with counters to that of a flow without counters that does the same; whether it is short enough for that."""
-    first, rest = found.text.split("\n", 1) if found.text else ("flow,1,0,1", "1,stop\n")
-    if found.exits is not None and found.count <= 300:
-        for z in range(found.counters + 1, 3):
-            more = ",".join([*first.split(",")[:4], str(z)])
-            assert searches.configurations(f"{more}\n{rest}", found.cells) == (found.count, found.exits), f"{found.name} with {z} counters"
-    other = found.counters and searches.unrolled(found.text, 30000)
-    if found.exits is None or not other:
-        return False
-    count, exits = searches.configurations(other[0], found.cells)
-    distances = {}
-    for exit, distance in exits.items():
-        distances[other[1][exit]] = min(distance, distances.get(other[1][exit], distance))
-    assert (count, distances) == (found.count, found.exits), found.name
-    return True
 
 
 def moved(exits, number):
@@ -925,9 +768,6 @@ def by_padding(flows):
     for k in range(600):
         text = by_chance(dice, 1 + k % 3, 1 + k % 2, 5 + dice.below(12), -1, 2)
         few.append((f"by chance, {k}", text, *searches.configurations(text, 65536)))
-    for k in range(150):
-        text = counting(dice, 1 + k % 2, 1 + k % 3 % 2, (5, 12), -1, 1, ([0, 1, 2], [1, 3])[:1 + k % 2])
-        few.append((f"by chance with counters, {k}", text, *searches.configurations(text, 65536)))
     for name, text, count, exits in few:
         room = 65 - len(text.splitlines())
         other, number = padded(dice, text, dice.below(room + 1))
@@ -1192,107 +1032,10 @@ BY_HAND = {
     "wide-exits/all-patterns": "report,7,60007 2,p,1 2,m,1 4,p,2 4,m,2",
     # -9999 to 0: 1, 10,002, 1, 1, 1, 10,004, 1, 1; at `stop` 1 and, after the end of the tape, 2
     "wide-exits/two-below": "report,9,20015 1,p,1 1,m,1 2,p,2 2,m,2 5,p,3 5,m,3 6,p,4 6,m,4 8,p,5 8,m,none",
-    # Counters. At `up` a counter is 0 to c - 1, at `count` 1 to c, at `stop` c: 2 * c + 1
-    "counters/loop-1": "report,3,3 2,p,none 2,m,1",
-    "counters/loop-2": "report,3,5 2,p,1 2,m,2",
-    "counters/loop-3": "report,3,7 2,p,1 2,m,3",
-    "counters/loop-10": "report,3,21 2,p,1 2,m,10",
-    "counters/loop-1000": "report,3,2001 2,p,1 2,m,1000",
-    # at `count` 0 to c, at `up` 0 to c - 1, at `stop` c: 2 * c + 2
-    "counters/compared-first-0": "report,3,2 1,p,none 1,m,1",
-    "counters/compared-first-1": "report,3,4 1,p,1 1,m,2",
-    "counters/compared-first-3": "report,3,8 1,p,1 1,m,4",
-    # 0 to 5, 0 to 5, 0 to 4, 5; two exits a round, six rounds
-    "counters/0-and-5": "report,4,18 1,p,none 1,m,1 2,p,2 2,m,12",
-    # 0 to 5, 0 to 4, 1 to 5, 5; two exits in each of five rounds, and one
-    "counters/5-and-0": "report,5,17 1,p,1 1,m,11 3,p,none 3,m,2 4,p,none 4,m,none",
-    # 0 to 4, 1 to 5, 3 to 5, 5, 5. The exits in order: 2,p 2,p 2,m 3,p 2,m 3,p 2,m 3,m 4,m
-    "counters/3-5-4": "report,6,15 2,p,1 2,m,3 3,p,4 3,m,8 4,p,none 4,m,9 5,p,none 5,m,none",
-    # 0 to 998, 1 to 999, 999, 999, 1000, 1000
-    "counters/999-and-1000": "report,7,2002 2,p,1 2,m,999 3,p,1000 3,m,none 5,p,none 5,m,1001 6,p,none 6,m,none",
-    "counters/9-ups": "report,11,11 10,p,1 10,m,none",
-    "counters/10-ups": "report,12,12 11,p,none 11,m,1",
-    # two rounds with two values at each `up`; 62 and 63 at `count`; 63
-    "counters/62-ups": "report,64,127 63,p,1 63,m,2",
-    # 1, 3; 1, 1, 1, 1; 2, 1, 1, 1; 1 at the read, since 2 and 3 are one; 3 and 1 behind it; at `stop` these 4 and, from the first read, 1. The
-    # second read is met by 1,p 2,m or by 1,p 2,p 6,m
-    "counters/met-by-an-exit-first": "report,13,23 1,p,1 1,m,1 2,p,2 2,m,2 6,p,none 6,m,3 11,p,3 11,m,3 12,p,none 12,m,4",
-    # the report of flow A
-    "counters/unused-1": "report,3,19 1,p,1 1,m,1 2,p,2 2,m,2",
-    "counters/unused-2": "report,3,19 1,p,1 1,m,1 2,p,2 2,m,2",
-    # a counter that is never compared has one value
-    "counters/rises-for-ever": "report,1,1",
-    "counters/rises-with-records": "report,3,9 1,p,1 1,m,1",
-    "counters/zero-and-up": "report,5,15 1,p,1 1,m,1",
-    # 0 to 2, 1 to 2
-    "counters/compared-for-ever": "report,2,5 2,p,1 2,m,2",
-    # 0 to 2, 0 to 2
-    "counters/equal-targets": "report,2,6 1,p,1 1,m,3",
-    "counters/zero-after-the-largest": "report,9,9 4,p,none 4,m,1 6,p,2 6,m,none 8,p,3 8,m,none",
-    # 0; 1 and 0; 1; 0
-    "counters/m-before-p": "report,4,5 2,p,2 2,m,1",
-    # 1, 3, 1, 3, 3; at `count` 1 and 2 are one; at `stop` that one and, after the end of the tape, 0
-    "counters/one-or-two": "report,7,14 1,p,1 1,m,1 2,p,2 2,m,2 6,p,none 6,m,3",
-    # the same, and 1 and 2 are two at `count` and at `stop`
-    "counters/one-or-two-and-2": "report,8,16 1,p,1 1,m,1 2,p,2 2,m,2 6,p,none 6,m,3 8,p,none 8,m,none",
-    # 0 alone has 3 patterns. At the read 0 with one of them, 1 to 5 with each; at `up` 0 to 5 with each; at `stop` as at the read. 16 + 18 + 16
-    "counters/unreached-5": "report,4,50 1,p,1 1,m,1 3,p,none 3,m,none",
-    "counters/unreached-0": "report,4,9 1,p,1 1,m,1 3,p,none 3,m,none",
-    "counters/unreached-of-the-other": "report,4,9 1,p,1 1,m,1 3,p,none 3,m,none",
-    "counters/behind-stop": "report,3,1 3,p,none 3,m,none",
-    # 2, 2, 3, 3, 1; two exits, then three
-    "counters/two-in-turn": "report,5,11 2,p,1 2,m,2 4,p,3 4,m,5",
-    # c, c, c, 1, 1
-    "counters/two-together": "report,5,8 3,p,1 3,m,2 4,p,none 4,m,3",
-    "counters/two-together-1000": "report,5,3002 3,p,1 3,m,1000 4,p,none 4,m,1001",
-    "counters/one-of-two": "report,5,4 2,p,1 2,m,none 3,p,none 3,m,2 4,p,none 4,m,none",
-    "counters/zero-of-one": "report,10,10 4,p,1 4,m,none 5,p,none 5,m,2 8,p,3 8,m,none 9,p,none 9,m,4",
-    # Two loops, of a around b. At `up,1` and `zero` a; at `up,2` 0 to b - 1 and at `count,2` 1 to b with each of a; at `count,1` a; 1:
-    # 2 * a * b + 3 * a + 1. The inner loop has b exits, the outer a times as many and one more
-    "counters/nested-3-2": "report,6,22 4,p,1 4,m,2 5,p,3 5,m,9",
-    "counters/nested-15-135-4096": "report,6,4096 4,p,1 4,m,135 5,p,136 5,m,2040",
-    "wide-counters/nested-30-1000": "report,6,60091 4,p,1 4,m,1000 5,p,1001 5,m,30030",
-    "wide-counters/nested-85-384-65536": "report,6,65536 4,p,1 4,m,384 5,p,385 5,m,32725",
-    # 8,064 + 192; 1, 1, 1
-    "wide-counters/row": "report,8,8259 4,p,1 4,m,63 5,p,64 5,m,4096 6,p,none 6,m,4097 7,p,none 7,m,4098",
-    # After k records counter 1 is 0 if k is even, else 1. At the read 1 and 3 * 3; 4 * 3, 4 * 3; 2 * 3, 2 * 3; 4 * 3; 3; 0; at `stop` 10 after
-    # the end of the tape, and 3. Three exits a round, four rounds
-    "counters/parity": "report,9,74 1,p,1 1,m,1 3,p,2 3,m,5 6,p,3 6,m,12 7,p,13 7,m,none 8,p,none 8,m,none",
-    # P patterns of one variable. At the read 1 and (c - 1) * P, at `up` and `count` c * P, then P; at `stop` P and, after the end of the
-    # tape, as many as at the read: 4 * c * P + 2. The c is no constant, so P is 3 if there are none
-    "counters/three-records": "report,5,38 1,p,1 1,m,1 3,p,2 3,m,6 4,p,none 4,m,7",
-    "wide-counters/records-1000": "report,5,12002 1,p,1 1,m,1 3,p,2 3,m,2000 4,p,none 4,m,2001",
-    "wide-counters/records-1-9999": "report,6,40010 1,p,1 1,m,1 3,p,none 3,m,2 4,p,none 4,m,3",
-    # 0 to 1: 4 patterns. With 0 counted 3 at the read, all but the one above, and with 1 counted 4; 8; 2, 2; at `stop` 7 and 1
-    "counters/two-over-1": "report,5,27 1,p,1 1,m,1 2,p,2 2,m,2 4,p,3 4,m,6",
-    # 1 and 3 * 3; 4 * 3; after the end of the tape 10, then 6, and 10 at `stop`
-    "counters/after-the-end": "report,5,48 1,p,1 1,m,1 3,p,2 3,m,4 4,p,5 4,m,6",
-    # 3 at each of four and, after the end of the tape, at `stop`
-    "counters/back-by-zero": "report,6,15 2,p,1 2,m,none 4,p,2 4,m,2 5,p,none 5,m,none",
-    # 1 and 3; 1 and 3; 1, 1, 3; at `stop` 3 and, after the end of the tape, 1
-    "counters/back-by-nop": "report,6,17 2,p,1 2,m,3 4,p,2 4,m,2 5,p,none 5,m,4",
-    # at `put` and at `zero` 1 and, with 3 counted, 3; then 9 five times
-    "counters/page-of-three": "report,7,53 3,p,1 3,m,1 6,p,2 6,m,6",
-    # Counters up to a and b. After the end of tape 1 there are s = 3 * a + 1 + 3 * (a + 1) * b, at the second read and behind it.
-    # 3 * a + 1, 3 * (a + 1), s, 3 * (a + 1) * (b + 1), s, 3 * (b + 1), s
-    "counters/two-tapes": "report,7,88 1,p,1 1,m,1 3,p,2 3,m,2 5,p,3 5,m,5 6,p,6 6,m,7",
-    "wide-counters/two-tapes": "report,7,45193 1,p,1 1,m,1 3,p,2 3,m,2 5,p,3 5,m,63 6,p,64 6,m,124",
-    # 5 * 819 + 1
-    "counters/loop-819-4096": "report,6,4096 5,p,1 5,m,819",
-    # at the read 1 and 454 * 3, at `up` 455 * 3, at `stop` 1,363; and 5 times 1
-    "counters/unreached-454-4096": "report,9,4096 6,p,1 6,m,1 8,p,none 8,m,none",
-    # 8 * 512 + 1, and 2 * 46 * 46 + 3 * 46 + 1 = 4,371
-    "counters/loop-512-4097": "refused,9,0",
-    "counters/nested-46-46-4371": "refused,9,0",
-    "wide-counters/nested-1000-1000": "refused,9,0",
 }
 
 
 # ---- the files of the two crates
-
-# how the names of flows at a limit end
-LIMITS = ("-4096", "-4097", "-65536", "-65537")
-
 
 def searched(topic, name, text):
     """What the search finds of a text, or how the text is turned back."""
@@ -1329,17 +1072,14 @@ def files(pool):
 def main():
     with multiprocessing.Pool() as pool:
         made, flows = files(pool)
-        whole, listed, counted = [pool.map(way, flows, chunksize=1) for way in (by_bounds, by_tapes, by_counters)]
-    # in these each record is farther out than the one before, without end, and so are the bounds; the last one has too many states
-    assert [x.name for x, seen in zip(flows, whole) if x.wide and not seen] == ["again-above", "again-below", "nested-1000-1000"]
-    # most of the flows with counters are decided by trial of tapes; two of those that are reported are too long without counters
-    with_counters = [(x, seen, same) for x, seen, same in zip(flows, listed, counted) if x.counters]
-    assert 3 * sum(seen for _, seen, _ in with_counters) > 2 * len(with_counters)
-    assert [x.name for x, _, same in with_counters if not same and x.exits is not None] == ["nested-30-1000", "nested-85-384-65536"]
+        whole = [by_bounds(x) for x in flows]
+        bounded, listed = sum(whole), sum(pool.map(by_tapes, flows, chunksize=1))
+    # in these each record is farther out than the one before, without end, and so are the bounds
+    assert [x.name for x, seen in zip(flows, whole) if x.wide and not seen] == ["again-above", "again-below"]
     # no bytes, and the other text of that flow: the one line of the report, and no samples
     assert [(x.report(), x.samples()) for x in flows if x.text in ("", "flow,1,0,1\n1,stop\n")] == [("report,1,1\n", "")] * 2
     for x in flows:
-        if x.topic in ("limit", "wide-limit") or x.topic in ("counters", "wide-counters") and x.name.endswith(LIMITS):
+        if x.topic in ("limit", "wide-limit"):
             count = int(x.name.rpartition("-")[2])
             assert (x.exits is None) == (count in (4097, 65537)), x.name
             assert count == (x.count or searches.configurations(x.text, count)[0]), x.name
@@ -1352,13 +1092,11 @@ def main():
     # a row as long as the distance is long enough, one that is shorter by 1 is refused
     for name, last in [("wide/counted-9-far", "55,p,none 55,m,4005,taken"), ("wide/counted-10-far", "61,p,none 61,m,refused,10,0"),
                        ("wide-exits/row-4096", "51,p,none 51,m,4096,taken 52,p,none 52,m,refused,10,0 "
-                                               "53,p,none 53,m,refused,10,0 54,p,none 54,m,refused,10,0"),
-                       ("wide-counters/row", "5,m,4096,taken 6,p,none 6,m,refused,10,0 7,p,none 7,m,refused,10,0")]:
+                                               "53,p,none 53,m,refused,10,0 54,p,none 54,m,refused,10,0")]:
         assert named[name].samples().endswith(last.replace(" ", "\n") + "\n"), name
     for name, content in made.items():
         assert "/data/" not in name or len(content) <= 131072, "the programs lend a row of that size"
-    agreed = (f"{len(flows)} flows agree; {sum(whole)} searched whole by bounds, {sum(listed)} by all short tapes, {sum(counted)} without "
-              f"their counters, {by_padding(flows)} with `nop` in them")
+    agreed = f"{len(flows)} flows agree; {bounded} searched whole by bounds, {listed} by all short tapes, {by_padding(flows)} with `nop` in them"
     return stored.compare(["test_reports", "test_samples"], {name: content.encode() for name, content in made.items()}, agreed)
 
 

@@ -42,10 +42,9 @@ pub struct Plan {
 impl Plan {
     pub fn of(flow: &Flow) -> Plan {
         let (lo, hi) = configuration::range(flow);
-        let caps = configuration::caps(flow);
         let mut ops = [Op::STOP; 64];
         for (op, x) in ops.iter_mut().zip(&flow.instructions[..flow.count]) {
-            *op = configuration::prepare(x, lo, caps);
+            *op = configuration::prepare(x, lo);
         }
         Plan { ops, w: (hi - lo) as u64 + 1, lo, hi, start: configuration::start(lo) }
     }
@@ -88,7 +87,6 @@ pub fn bound(text: &[u8]) -> Result<Option<u64>, Refusal> {
         _ => by(&[8, 48, 176, 308]),
     };
     let n = further((flow.count as u64) << flow.tapes, patterns, 0);
-    let n = configuration::caps(&flow).iter().fold(n, |n, cap| further(n, u64::from(*cap) + 1, 0));
     Ok((n <= MOST).then_some(n))
 }
 

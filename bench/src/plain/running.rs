@@ -37,7 +37,6 @@ pub fn run(text: &[u8], limit: u64, records: &[i32], lengths: &[usize], numbers:
 fn run_from(flow: &Flow, limit: u64, records: &[i32], mut at: [usize; 3], ends: [usize; 3], numbers: &mut [u8], values: &mut [i32]) -> Ran {
     let cells = numbers.len().min(values.len());
     let mut variables = [0i32; 4];
-    let mut counters = [0u32; 2];
     let (mut p, mut m) = ([0; 64], [0; 64]);
     let (mut next, mut steps, mut puts) = (1, 0, 0);
     let end = loop {
@@ -82,15 +81,6 @@ fn run_from(flow: &Flow, limit: u64, records: &[i32], mut at: [usize; 3], ends: 
             Kind::Over => x.c < variables[v],
             Kind::Under => variables[v] < x.c,
             Kind::Nop | Kind::Stop => true,
-            Kind::Zero => {
-                counters[a] = 0;
-                true
-            }
-            Kind::Up => {
-                counters[a] += 1;
-                true
-            }
-            Kind::Count => counters[a] < x.c as u32,
         };
         if x.kind.two_exits() {
             if taken {

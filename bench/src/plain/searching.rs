@@ -28,7 +28,7 @@ fn fan(cells: &mut Cells, n: &mut usize, size: usize, k: usize, d: u32, op: &Op,
 fn settle(cells: &mut Cells, n: &mut usize, size: usize, k: usize, plan: &Plan, table: &[u16]) -> Option<()> {
     let place = cells.place(k);
     let op = &plan.ops[configuration::at(place) - 1];
-    if op.action.goes_on() {
+    if matches!(op.action, Action::Assign | Action::Go) {
         let x = Words { place, pattern: cells.pattern(k) };
         let y = configuration::next(op, plan.w, x, table);
         cells.visit(n, size, y.place, y.pattern, cells.distance(k), k)?;
@@ -40,7 +40,7 @@ fn settle(cells: &mut Cells, n: &mut usize, size: usize, k: usize, plan: &Plan, 
 fn expand(cells: &mut Cells, n: &mut usize, size: usize, k: usize, plan: &Plan, table: &[u16]) -> Option<()> {
     let place = cells.place(k);
     let op = &plan.ops[configuration::at(place) - 1];
-    if op.action.branches() {
+    if matches!(op.action, Action::Read | Action::Test) {
         let x = Words { place, pattern: cells.pattern(k) };
         let d = cells.distance(k) + 1;
         fan(cells, n, size, k, d, op, plan.w, x, table)?;
@@ -80,7 +80,7 @@ pub fn exits(cells: &Cells, n: usize, plan: &Plan, table: &[u16]) -> ([u32; 64],
         let place = cells.place(k);
         let i = configuration::at(place) - 1;
         let op = &plan.ops[i];
-        if !op.action.branches() || p[i] != 0 && m[i] != 0 {
+        if !matches!(op.action, Action::Read | Action::Test) || p[i] != 0 && m[i] != 0 {
             continue;
         }
         let x = Words { place, pattern: cells.pattern(k) };

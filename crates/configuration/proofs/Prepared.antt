@@ -1,15 +1,15 @@
 -- Prepared instructions: a row's kind decides what it is. Each law on the kinds is one computed test over the table of flow.
 use mathlib.Core.Path.{◌≡◌, refl, sym, ap, subst, ◌∙◌}
-use mathlib.Core.Bool.{Bool, true, false, cond, ◌&&◌, false≢true}
+use mathlib.Core.Bool.{Bool, true, false, cond, not, ◌&&◌, false≢true}
 use mathlib.Core.List.{List, [], ◌∷◌, map}
-use Prim.Native.Nat.{ℕ, zero, suc, ◌+◌, ◌-◌, ◌≤◌, min}
+use Prim.Native.Nat.{ℕ, zero, suc, ◌+◌, ◌≤◌, min}
 use native.Mathlib.Omega.{arith}
-use lib.IntN.{ℤ, pos}
+use lib.IntN.{ℤ}
 use lib.ListN.{get_or}
 use borrow.Author.Tests.{leb-true}
 use lib.Dec.{leb}
 use Rattle.model.specs.Language.{Instruction, fields, constants}
-use Rattle.flow.specs.Words.{sorts, count, at, built}
+use Rattle.flow.specs.Words.{sorts, may_minus, count, at, built}
 use Rattle.flow.specs.Inner.Reader.{field, HeadFits}
 use Rattle.flow.specs.Code.{kind, numbers}
 use Rattle.flow.specs.Read.{all, in_range, is_named}
@@ -19,95 +19,80 @@ use Rattle.flow.proofs.Tests.{and_split}
 use Rattle.flow.specs.declared.Instruction.{Instruction as Row}
 use Rattle.flow.specs.declared.Kind.{Kind}
 use Rattle.flow.specs.declared.Sort.{Sort}
-use Rattle.flow.specs.declared.Sort.TheVariants.{Tape, Output, Variable, Counter, Target, Constant, Limit}
+use Rattle.flow.specs.declared.Sort.TheVariants.{Tape, Output, Variable, Target, Constant}
 use Rattle.flow.specs.Inner.Rows.{instruction_of, numbers_in}
-use Rattle.configuration.specs.Inner.Prepare.{names, is_name, FitBytes, formed}
+use Rattle.configuration.specs.Inner.Prepare.{is_count, FitBytes, formed}
 use Rattle.constants.specs.Inner.Constants.{offset}
-use Rattle.constants.proofs.RowCaps.{offset-count}
 use Rattle.configuration.specs.Inner.Op.{op_of}
 use Rattle.configuration.specs.declared.Op.{Op}
 
 -- ---- the form of a row
--- a number that names a part, else 0
+-- a number that counts, else 0
 abbrev only : Kind → (ℕ → ℕ) → ℕ → ℕ
-only k n j = cond (is_name (sorts k) j) (n j) 0
+only k n j = cond (is_count (sorts k) j) (n j) 0
 
--- a form uses as counts only numbers that name a part, and the cap only where the first number is such a one
-formed-only : (n : ℕ → ℕ) (u v l : ℕ) (cap : ℕ → ℕ) (k : Kind)
-    → formed k (n 0) (n 1) (n 2) (n 3) u v l (cap (n 0)) ≡ formed k (only k n 0) (only k n 1) (only k n 2) (only k n 3) u v l (cap (only k n 0))
-formed-only n u v l cap =
-    tried (λ k. formed k (n 0) (n 1) (n 2) (n 3) u v l (cap (n 0)))
-    (λ k. formed k (only k n 0) (only k n 1) (only k n 2) (only k n 3) u v l (cap (only k n 0))) refl
+-- a form uses as counts only numbers that count
+formed-only : (n : ℕ → ℕ) (u v : ℕ) (k : Kind) → formed k (n 0) (n 1) (n 2) (n 3) u v ≡ formed k (only k n 0) (only k n 1) (only k n 2) (only k n 3) u v
+formed-only n u v = tried (λ k. formed k (n 0) (n 1) (n 2) (n 3) u v) (λ k. formed k (only k n 0) (only k n 1) (only k n 2) (only k n 3) u v) refl
 
--- the cap of a counter, counted from 1
-abbrev cap_at : List ℕ → ℕ → ℕ
-cap_at caps z = get_or caps (z - 1) 0
-
-formed_op : (lo : ℤ) (caps : List ℕ) (ns : List ℤ) (k : Kind)
-    → formed k (count (at ns 0)) (count (at ns 1)) (count (at ns 2)) (count (at ns 3)) (offset (at ns 0) lo) (offset (at ns 1) lo) (count (at ns 1)) (cap_at caps (count (at ns 0)))
-    ≡ op_of lo caps (built k ns)
+formed_op : (lo : ℤ) (ns : List ℤ) (k : Kind)
+    → formed k (count (at ns 0)) (count (at ns 1)) (count (at ns 2)) (count (at ns 3)) (offset (at ns 0) lo) (offset (at ns 1) lo) ≡ op_of lo (built k ns)
 unfolding op_of
-formed_op lo caps ns =
-    tried
-    (λ k. formed k (count (at ns 0)) (count (at ns 1)) (count (at ns 2)) (count (at ns 3)) (offset (at ns 0) lo) (offset (at ns 1) lo) (count (at ns 1)) (cap_at caps (count (at ns 0))))
-    (λ k. op_of lo caps (built k ns)) refl
+formed_op lo ns =
+    tried (λ k. formed k (count (at ns 0)) (count (at ns 1)) (count (at ns 2)) (count (at ns 3)) (offset (at ns 0) lo) (offset (at ns 1) lo))
+    (λ k. op_of lo (built k ns)) refl
 
 only_byte : (x : Row) → FitBytes x → (j : ℕ) → only x.kind (λ i. min (count (at (numbers_in x) i)) 255) j ≡ only x.kind (λ i. count (at (numbers_in x) i)) j
-only_byte x h j = by (is_name (sorts x.kind) j) (h j)
+only_byte x h j = by (is_count (sorts x.kind) j) (h j)
   where
     by : (b : Bool) → (b ≡ true → count (at (numbers_in x) j) ≤ 255) → cond b (min (count (at (numbers_in x) j)) 255) 0 ≡ cond b (count (at (numbers_in x) j)) 0
     by true f = omega (arith, f refl)
     by false f = refl
 
-module _ (lo : ℤ) (caps : List ℕ) (x : Row) (bytes : FitBytes x) where
+module _ (lo : ℤ) (x : Row) (bytes : FitBytes x) where
   abbrev m : ℕ → ℕ
   m i = min (count (at (numbers_in x) i)) 255
 
   abbrev n : ℕ → ℕ
   n i = count (at (numbers_in x) i)
 
-  pub prepared : {a b c d u v l k : ℕ} {r : Op} → a ≡ m 0 → b ≡ m 1 → c ≡ m 2 → d ≡ m 3
-      → u ≡ offset (at (numbers_in x) 0) lo → v ≡ offset (at (numbers_in x) 1) lo → l ≡ offset (at (numbers_in x) 1) (pos 0) → k ≡ get_or caps (a - 1) 0
-      → r ≡ formed x.kind a b c d u v l k → r ≡ op_of lo caps (instruction_of x)
-  prepared {u = u} {v = v} {l = l} ea eb ec ed eu ev el ek h =
+  pub prepared : {a b c d u v : ℕ} {r : Op} → a ≡ m 0 → b ≡ m 1 → c ≡ m 2 → d ≡ m 3 → u ≡ offset (at (numbers_in x) 0) lo → v ≡ offset (at (numbers_in x) 1) lo
+      → r ≡ formed x.kind a b c d u v → r ≡ op_of lo (instruction_of x)
+  prepared {u = u} {v = v} ea eb ec ed eu ev h =
       let k = x.kind in
-      let cap : ℕ → ℕ = cap_at caps in
       h
-      ∙ ap (formed k _ _ _ _ u v l) ek
-      ∙ (λ i. formed k (ea i) (eb i) (ec i) (ed i) u v l (cap (ea i)))
-      ∙ formed-only m u v l cap k
-      ∙ (λ i. formed k (only_byte x bytes 0 i) (only_byte x bytes 1 i) (only_byte x bytes 2 i) (only_byte x bytes 3 i) u v l (cap (only_byte x bytes 0 i)))
-      ∙ sym (formed-only n u v l cap k)
-      ∙ (λ i. formed k (n 0) (n 1) (n 2) (n 3) (eu i) (ev i) ((el ∙ offset-count (at (numbers_in x) 1)) i) (cap (n 0)))
-      ∙ formed_op lo caps (numbers_in x) k
+      ∙ (λ i. formed k (ea i) (eb i) (ec i) (ed i) u v)
+      ∙ formed-only m u v k
+      ∙ (λ i. formed k (only_byte x bytes 0 i) (only_byte x bytes 1 i) (only_byte x bytes 2 i) (only_byte x bytes 3 i) u v)
+      ∙ sym (formed-only n u v k)
+      ∙ (λ i. formed k (n 0) (n 1) (n 2) (n 3) (eu i) (ev i))
+      ∙ formed_op lo (numbers_in x) k
 
 -- an arm of the match on the kind
-pub formed_by : (k k' : Kind) (a b c d u v l j : ℕ) {r : Op} → r ≡ formed k' a b c d u v l j → k ≡ k' → r ≡ formed k a b c d u v l j
-formed_by k k' a b c d u v l j h e = h ∙ ap (λ (q : Kind). formed q a b c d u v l j) (sym e)
+pub formed_by : (k k' : Kind) (a b c d u v : ℕ) {r : Op} → r ≡ formed k' a b c d u v → k ≡ k' → r ≡ formed k a b c d u v
+formed_by k k' a b c d u v h e = h ∙ ap (λ (j : Kind). formed j a b c d u v) (sym e)
 
 -- the constant of a prepared instruction is that of the instruction, prepared; 0 where there is none
-pub op_constant : (lo : ℤ) (caps : List ℕ) (i : Instruction) → (op_of lo caps i).constant ≡ get_or (map (λ c. offset c lo) (constants (fields i))) 0 0
+pub op_constant : (lo : ℤ) (i : Instruction) → (op_of lo i).constant ≡ get_or (map (λ c. offset c lo) (constants (fields i))) 0 0
 unfolding op_of constants
-op_constant lo caps i =
-    let one = tried (λ k. (op_of lo caps (built k (numbers i))).constant) (λ k. get_or (map (λ c. offset c lo) (constants (fields (built k (numbers i))))) 0 0) refl (kind i) in
-    subst (λ (j : Instruction). (op_of lo caps j).constant ≡ get_or (map (λ c. offset c lo) (constants (fields j))) 0 0) (parts-built i) one
+op_constant lo i =
+    let one = tried (λ k. (op_of lo (built k (numbers i))).constant) (λ k. get_or (map (λ c. offset c lo) (constants (fields (built k (numbers i))))) 0 0) refl (kind i) in
+    subst (λ (j : Instruction). (op_of lo j).constant ≡ get_or (map (λ c. offset c lo) (constants (fields j))) 0 0) (parts-built i) one
 
--- ---- the rows of a legal flow: every number that names a part fits a byte
+-- ---- the rows of a legal flow: every number that counts fits a byte
 module _ (h : Head) (f : HeadFits h) (n : ℕ) (few : n ≤ 64) where
   counted : (k hi : ℕ) → hi ≤ 64 → (leb 1 k && leb k hi) ≡ true → k ≤ 255
   counted k hi l e = omega (arith, leb-true k hi (and_split (leb 1 k) (leb k hi) e).1)
 
-  byte : (s : Sort) (z : ℤ) → in_range h (field s z) ≡ true → is_named n (field s z) ≡ true → names s ≡ true → count z ≤ 255
+  byte : (s : Sort) (z : ℤ) → in_range h (field s z) ≡ true → is_named n (field s z) ≡ true → not (may_minus s) ≡ true → count z ≤ 255
   byte Tape z r s e = counted (count z) h.tapes (omega arith) r
   byte Output z r s e = counted (count z) h.outputs (omega arith) r
   byte Variable z r s e = counted (count z) h.variables (omega arith) r
-  byte Counter z r s e = counted (count z) h.counters (omega arith) r
   byte Target z r s e = counted (count z) n few s
   byte Constant z r s e = absurd (false≢true e)
-  byte Limit z r s e = absurd (false≢true e)
 
   bytes-from : (ss : List Sort) (ns : List ℤ) (i : ℕ) → all (in_range h) (placed ss ns i) ≡ true → all (is_named n) (placed ss ns i) ≡ true
-      → (j : ℕ) → is_name ss j ≡ true → count (at ns (i + j)) ≤ 255
+      → (j : ℕ) → is_count ss j ≡ true → count (at ns (i + j)) ≤ 255
   unfolding all
   bytes-from [] ns i r s j e = absurd (false≢true e)
   bytes-from (k ∷ ss) ns i r s zero e =

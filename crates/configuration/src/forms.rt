@@ -1,13 +1,13 @@
 // Instructions prepared for a search, in which a constant is its offset from C1 (specs/inner/Op.antt).
 
-ghost use Rattle.std.specs.Prelude.{◌≡◌, ◌-◌, min, get_or};
+ghost use Rattle.std.specs.Prelude.{◌≡◌, ◌-◌, min};
 ghost use Rattle.flow.specs.Words.{count};
 ghost use Rattle.flow.specs.Inner.Rows.{instruction_of};
 ghost use Rattle.configuration.specs.Inner.Prepare.{FitBytes, formed};
 ghost use Rattle.configuration.specs.Inner.Op.{op_of};
 
 use crate::Op;
-use flow::{Flow, Instruction, Kind};
+use flow::{Instruction, Kind};
 
 // The index, from 0 on, of a number that counts from 1.
 fn from_zero(n: u8) -> u8
@@ -32,21 +32,9 @@ fn byte(n: i32) -> u8
     n as u8
 }
 
-// The largest c of counter z, counted from 1.
-fn cap_of(caps: [u32; Flow::COUNTERS], z: u8) -> u32
-    ensures { result ≡ get_or caps (z - 1) 0 }
-{
-    let i = from_zero(z) as usize;
-    if i < Flow::COUNTERS {
-        return caps[i];
-    }
-    0
-}
-
-// The prepared form of a kind: a, b, c, d are the numbers of the line as counts, u and v the first two as constants, prepared already, l is the
-// second as the c of a `count`, k the cap of the counter that is the first.
-fn form(kind: Kind, a: u8, b: u8, c: u8, d: u8, u: u32, v: u32, l: u32, k: u32) -> Op
-    ensures { result ≡ formed kind a b c d u v l k }
+// The prepared form of a kind: a, b, c, d are the numbers of the line as counts, u and v the first two as constants, prepared already.
+fn form(kind: Kind, a: u8, b: u8, c: u8, d: u8, u: u32, v: u32) -> Op
+    ensures { result ≡ formed kind a b c d u v }
 {
     match kind {
         Kind::Read => {
@@ -76,22 +64,13 @@ fn form(kind: Kind, a: u8, b: u8, c: u8, d: u8, u: u32, v: u32, l: u32, k: u32) 
         Kind::Stop => {
             return Op::stop();
         }
-        Kind::Zero => {
-            return Op::tick(from_zero(a), 0, b);
-        }
-        Kind::Up => {
-            return Op::tick(from_zero(a), k, b);
-        }
-        Kind::Count => {
-            return Op::limit(from_zero(a), l, c, d);
-        }
     }
 }
 
-// An instruction prepared for a search; lo is C1, and caps are the largest c of the counters.
-pub fn prepare(x: Instruction, lo: i32, caps: [u32; Flow::COUNTERS]) -> Op
+// An instruction prepared for a search; lo is C1.
+pub fn prepare(x: Instruction, lo: i32) -> Op
     requires { FitBytes x }
-    ensures { result ≡ op_of lo caps (instruction_of x) }
+    ensures { result ≡ op_of lo (instruction_of x) }
 {
     let a = byte(x.first);
     let b = byte(x.second);
@@ -99,8 +78,6 @@ pub fn prepare(x: Instruction, lo: i32, caps: [u32; Flow::COUNTERS]) -> Op
     let d = byte(x.fourth);
     let u = constants::offset_of(x.first, lo);
     let v = constants::offset_of(x.second, lo);
-    let l = constants::offset_of(x.second, 0);
-    let k = cap_of(caps, a);
     let kind = x.kind;
-    form(kind, a, b, c, d, u, v, l, k)
+    form(kind, a, b, c, d, u, v)
 }

@@ -1,25 +1,28 @@
 -- C1 and C2 by a loop over a flow's rows, from the last to the first. An instruction without a constant counts as one with 0, which is a basic
 -- constant anyway; so least and greatest are folds that take one number from each row.
-use mathlib.Core.Path.{◌≡◌, refl, sym, ap₂, ◌∙◌}
+use mathlib.Core.Path.{◌≡◌, refl, sym, ap, ap₂, ◌∙◌}
 use mathlib.Core.Bool.{Bool, true, false, cond}
-use mathlib.Core.List.{List, [], ◌∷◌, ◌++◌}
+use mathlib.Core.List.{List, [], ◌∷◌, ◌++◌, map}
 use Prim.Native.Nat.{ℕ, suc, ◌≤◌, ◌<◌}
 use native.Mathlib.Omega.{arith}
 use lib.IntN.{ℤ, pos}
 use lib.Signed.{lt_z, le_z}
-use lib.Dec.{T}
-use lib.ListN.{length, get_or}
+use lib.Dec.{T, ltb}
+use lib.ListN.{length, get_or, drop, take, length-take, drop_of_length-le, get_or-eq_default}
+use lib.Seq.{drop-cons, get_or-take}
+use borrow.Author.Tests.{ltb-true, ltb-false}
 use mir.Syntax.{w32}
 use mir.Val.{SFits, to_z, of_z}
 use mir.Facts.{to_z-of_z}
 use Rattle.model.specs.Language.{Instruction, fields, constants, all_constants, least, greatest, C1, C2}
 use Rattle.model.proofs.Integers.{zarith}
+use Rattle.flow.specs.Code.{row as row_by}
+use Rattle.flow.specs.declared.Kind.TheVariants.{Read}
 use Rattle.flow.specs.declared.Flow.{Flow as Rows}
 use Rattle.flow.specs.declared.Instruction.{Instruction as Row}
 use Rattle.flow.specs.Inner.Rows.{instruction_of, flow_of}
 use Rattle.constants.specs.Inner.Constants.{constant_in}
 use Rattle.constants.proofs.RowConstants.{few-constants}
-use Rattle.constants.proofs.RowFold.{rest_rows, rest_no_rows, rest_all_rows, no_row, fold-row}
 
 abbrev pub lesser : ℤ → ℤ → ℤ
 lesser c r = cond (lt_z c r) c r
@@ -80,28 +83,56 @@ greatest-fold = record { step = further greatest greater (λ c cs. refl) greates
 -- ---- the loop over a flow's rows, from the last to the first
 -- the constants of the rows from number i on
 pub extremes_rest : Rows → ℕ → List ℤ
-extremes_rest flow i = all_constants (rest_rows flow i)
+extremes_rest flow i = all_constants (map instruction_of (drop i (take flow.count flow.instructions)))
 
 pub rest_none : (flow : Rows) → (pos 0 ≡ least (extremes_rest flow flow.count)) × (pos 0 ≡ greatest (extremes_rest flow flow.count))
 unfolding extremes_rest all_constants least greatest
-rest_none flow = rw (rest_no_rows flow) (refl, refl)
+rest_none flow =
+    let e = drop_of_length-le (take flow.count flow.instructions) {i = flow.count}
+    (omega (arith, length-take flow.count flow.instructions)) in
+    rw e (refl, refl)
 
 pub rest_all : (flow : Rows) → (least (extremes_rest flow 0) ≡ C1 (flow_of flow)) × (greatest (extremes_rest flow 0) ≡ C2 (flow_of flow))
-unfolding extremes_rest C1 C2
-rest_all flow = rw (rest_all_rows flow) (refl, refl)
+unfolding extremes_rest flow_of C1 C2
+rest_all flow = (refl, refl)
+
+-- what stands past the rows
+abbrev blank : Row
+blank = row_by Read []
 
 module _ (flow : Rows) (i : ℕ) (h : i < flow.count) (f : List ℤ → ℤ) (g : ℤ → ℤ → ℤ) (fold : Fold f g) where
   abbrev row : Row
-  row = get_or flow.instructions i no_row
+  row = get_or flow.instructions i blank
 
-  next_row : f (extremes_rest flow i) ≡ g (constant_in (instruction_of row)) (f (extremes_rest flow (suc i)))
+  abbrev rows : List Row
+  rows = take flow.count flow.instructions
+
+  fold-row : f (extremes_rest flow i) ≡ g (constant_in (instruction_of row)) (f (extremes_rest flow (suc i)))
   unfolding extremes_rest constants
-  next_row = fold-row (λ xs. f (all_constants xs)) (λ x c. g (constant_in x) c) fold.step (sym (fold.zero (all_constants []))) flow i h
+  fold-row = go (ltb i (length flow.instructions)) refl
+    where
+      go : (b : Bool) → ltb i (length flow.instructions) ≡ b → f (extremes_rest flow i) ≡ g (constant_in (instruction_of row)) (f (extremes_rest flow (suc i)))
+      go true e =
+          let k = ltb-true i (length flow.instructions) e in
+          ap (λ (l : List Row). f (all_constants (map instruction_of l)))
+          (drop-cons rows i blank (omega (arith, length-take flow.count flow.instructions)))
+          ∙ fold.step (instruction_of (get_or rows i blank)) (map instruction_of (drop (suc i) rows))
+          ∙ ap (λ (y : Row). g (constant_in (instruction_of y)) (f (extremes_rest flow (suc i)))) (get_or-take flow.count flow.instructions i blank h)
+      go false e =
+          let k = ltb-false i (length flow.instructions) e in
+          let l = length-take flow.count flow.instructions in
+          rw (
+            drop_of_length-le rows {i = i} (omega arith),
+            drop_of_length-le rows {i = suc i} (omega arith),
+            get_or-eq_default
+                flow.instructions blank {n = i} k,
+          )
+          (sym (fold.zero (all_constants [])))
 
   -- one turn of the loop: k is the row's constant, l the fold so far, r what is taken
   pub rest_further : (k r l : ℤ) → SFits w32 k → SFits w32 r → k ≡ constant_in (instruction_of row) → l ≡ f (extremes_rest flow (suc i)) →
       r ≡ g (to_z w32 (of_z w32 k)) l → to_z w32 (of_z w32 r) ≡ f (extremes_rest flow i)
-  rest_further k r l fk fr ek el er = to_z-of_z fr ∙ er ∙ ap₂ g (to_z-of_z fk ∙ ek) el ∙ sym next_row
+  rest_further k r l fk fr ek el er = to_z-of_z fr ∙ er ∙ ap₂ g (to_z-of_z fk ∙ ek) el ∙ sym fold-row
 
 pub picked_left : (b : Bool) (x y : ℤ) → b ≡ true → x ≡ cond b x y
 picked_left b x y e = rw e

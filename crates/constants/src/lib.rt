@@ -1,7 +1,4 @@
-// The constants of a flow: C1 and C2, how many whole numbers there are from C1 to C2, and how far a constant lies above C1; and the largest c of
-// each counter.
-
-pub mod caps; // caps.rt: the largest c of each counter
+// The constants of a flow: C1 and C2, how many whole numbers there are from C1 to C2, and how far a constant lies above C1.
 
 ghost use Rattle.std.specs.Prelude.{◌≡◌, cond, ◌≤◌};
 ghost use Rattle.model.specs.Language.{C1, C2};

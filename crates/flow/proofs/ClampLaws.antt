@@ -127,7 +127,7 @@ module _ (h : Head) (f : HeadFits h) (n : ℕ) (l : n < 255) where
             ((tt, omega (zarith, f.outputs)), tt),
             (
               ((tt, omega (zarith, f.variables)), tt),
-              (((tt, omega (zarith, f.counters)), tt), (((tt, tt), tt), (((tt, tt), tt), tt))),
+              (((tt, tt), tt), tt),
             ),
           ),
         ),

@@ -1,6 +1,5 @@
 -- Faulty lines with their refusals, computed by the definition: in a line 13 comes before 14, 14 before 15, 15 before 6 and 6 before 5
--- (document 01, "Where a request is turned back"; document 02, T-02), also where counters are declared or used (T-10). And texts that look
--- empty: only one of no bytes is a flow (T-08).
+-- (document 01, "Where a request is turned back"; document 02, T-02). And texts that look empty: only one of no bytes is a flow (T-08).
 use mathlib.Core.Path.{◌≡◌, refl}
 use mathlib.Core.List.{List, [], ◌∷◌, ◌++◌, map}
 use mathlib.Core.Option.{Option, none, some, bind}
@@ -27,10 +26,6 @@ as_head line = refused_by (read_flow (bytes line ++ bytes "\n1,stop\n"))
 abbrev as_instruction : String → Option (ℕ × ℕ)
 as_instruction line = refused_by (read_flow (bytes "flow,1,0,1\n" ++ bytes line ++ bytes "\n"))
 
--- the same where two counters are declared
-abbrev as_counting : String → Option (ℕ × ℕ)
-as_counting line = refused_by (read_flow (bytes "flow,1,0,1,2\n" ++ bytes line ++ bytes "\n"))
-
 abbrev as_text : String → Option (ℕ × ℕ)
 as_text text = refused_by (read_flow (bytes text))
 
@@ -40,12 +35,9 @@ heads =
     -- the first field is not `flow`
     ("", 13) ∷ ("stop", 13) ∷ ("1,stop", 13) ∷ ("flows,1,0,1", 13) ∷ ("flows,9,0,1", 13) ∷ ("x,-1,01", 13)
     -- the count of fields is wrong
-    ∷ ("flow", 14) ∷ ("flow,1,0", 14) ∷ ("flow,1,0,1,1,", 14) ∷ ("flow,x,01", 14) ∷ ("flow,9,0", 14) ∷ ("flow,1,0,1,3,01", 14)
+    ∷ ("flow", 14) ∷ ("flow,1,0", 14) ∷ ("flow,1,0,1,", 14) ∷ ("flow,x,01", 14) ∷ ("flow,9,0", 14)
     -- a number is badly written; a number is out of its range
     ∷ ("flow,1,0,", 15) ∷ ("flow,01,0,1", 15) ∷ ("flow,9,0,-1", 15) ∷ ("flow,9,0,1", 5)
-    -- the same of the counters
-    ∷ ("flow,1,0,1,", 15) ∷ ("flow,1,0,1,-1", 15) ∷ ("flow,1,0,1,01", 15) ∷ ("flow,1,0,9,x", 15)
-    ∷ ("flow,1,0,1,0", 5) ∷ ("flow,1,0,1,3", 5) ∷ ("flow,9,0,1,2", 5)
     ∷ []
 
 abbrev instructions : List (String × ℕ)
@@ -59,19 +51,6 @@ instructions =
     ∷ ("x,nop,1", 15) ∷ ("9,nop,01", 15) ∷ ("1,nop,-1", 15) ∷ ("1,set,-0,1,1", 15) ∷ ("9,set,10000,1,01", 15)
     -- it is out of turn; a number is out of its range
     ∷ ("9,nop,1", 6) ∷ ("9,set,10000,1,1", 6) ∷ ("1,set,10000,1,1", 5)
-    -- there are no counters
-    ∷ ("1,up,1", 14) ∷ ("1,zero,1,1", 5) ∷ ("1,up,1,1", 5) ∷ ("1,count,1,1,1,1", 5) ∷ ("1,count,1,-0,1,1", 15)
-    ∷ []
-
-abbrev countings : List (String × ℕ)
-countings =
-    ("1,zero,1", 14) ∷ ("1,up,1,1,1", 14) ∷ ("1,count,1,-1,1", 14)
-    -- the c of a `count` has no minus
-    ∷ ("1,up,-1,1", 15) ∷ ("1,count,1,-1,1,1", 15) ∷ ("1,count,1,-0,1,1", 15) ∷ ("1,count,1,01,1,1", 15) ∷ ("9,count,3,-1,1,1", 15)
-    ∷ ("9,count,1,1001,1,1", 6)
-    -- no counter is named, or c is too large
-    ∷ ("1,zero,0,1", 5) ∷ ("1,up,0,1", 5) ∷ ("1,count,0,1,1,1", 5) ∷ ("1,zero,3,1", 5) ∷ ("1,up,3,1", 5) ∷ ("1,count,3,1,1,1", 5)
-    ∷ ("1,count,1,1001,1,1", 5)
     ∷ []
 
 -- texts with their refusals
@@ -92,7 +71,6 @@ ought place = map (λ (l : String × ℕ). some (l.1, place))
 
 pub faulty_lines : (found as_head heads ≡ ought 1 heads)
     × (found as_instruction instructions ≡ ought 2 instructions)
-    × (found as_counting countings ≡ ought 2 countings)
     × (map (λ (t : String × Option (ℕ × ℕ)). as_text t.0) nearly_empty ≡ map (λ (t : String × Option (ℕ × ℕ)). t.1) nearly_empty)
-unfolding Read.read_flow Read.read_bytes Read.read_rest Read.read_head Read.read_counters Read.head_of Read.read_lines Read.read_line Read.numerals bind Read.all Words.first_named Split.lines Split.split Split.parts Split.lead Split.same_word Number.natural Number.numeral Number.negative Number.digits_after
-faulty_lines = (refl, refl, refl, refl)
+unfolding Read.read_flow Read.read_bytes Read.read_rest Read.read_head Read.head_of Read.read_lines Read.read_line Read.numerals bind Read.all Words.first_named Split.lines Split.split Split.parts Split.lead Split.same_word Number.natural Number.numeral Number.negative Number.digits_after
+faulty_lines = (refl, refl, refl)

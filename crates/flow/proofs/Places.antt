@@ -11,7 +11,7 @@ use borrow.Author.Tests.{leb-true}
 use lib.ListN.{length}
 use Rattle.model.specs.Language.{Instruction, fields}
 use Rattle.flow.specs.Limits.{max_instructions}
-use Rattle.flow.specs.Read.{Checked, ok, fault, check, given, after, unless, is_named, all, read_counters, head_of, read_head, read_line, read_lines, lost_target, read_rest, read_bytes, read_flow}
+use Rattle.flow.specs.Read.{Checked, ok, fault, check, given, after, unless, is_named, all, head_of, read_head, read_line, read_lines, lost_target, read_rest, read_bytes, read_flow}
 use Rattle.flow.specs.Refusals.{place_of}
 use Rattle.flow.specs.declared.Head.{Head}
 use Rattle.flow.specs.declared.Refusal.{Refusal}
@@ -37,14 +37,9 @@ after-within (ok x) rest w h = h x refl
 after-within (fault r) rest w h = w
 
 -- ---- the parts of a text, each with the places of its refusals
-counters-within : (fs : List (List ℕ)) → Within (read_counters fs)
-unfolding read_counters
-counters-within [] = tt
-counters-within (f ∷ fs) = let near : 1 ≤ max_instructions + 2 = omega arith in search (check-within, given-within, tt) depth 20
-
 head-within : (fs : List (List ℕ)) → Within (read_head fs)
 unfolding read_head head_of
-head-within fs = let near : 1 ≤ max_instructions + 2 = omega arith in search (check-within, given-within, after-within, counters-within, tt) depth 30
+head-within fs = let near : 1 ≤ max_instructions + 2 = omega arith in search (check-within, given-within, tt) depth 20
 
 line_within : (h : Head) (i : ℕ) (fs : List (List ℕ)) → i ≤ max_instructions → Within (read_line h i fs)
 unfolding read_line

@@ -11,7 +11,7 @@ use lib.Dec.{leb}
 use lib.IntN.{ℤ, pos}
 use lib.ListN.{length, get_or, drop, replicate, drop_of_length-le}
 use lib.Seq.{drop-cons}
-use Rattle.model.specs.Language.{Instruction, read, put, copy, const, less, over, under, nop, stop, reset, raise, fewer, Field, fields}
+use Rattle.model.specs.Language.{Instruction, read, put, copy, const, less, over, under, nop, stop, Field, fields}
 use Rattle.model.specs.Inner.Lists.{All}
 use Rattle.text.specs.Split.{same_word}
 use Rattle.flow.specs.Words.{table, kinds, first_named, kind_of, sorts, at, built}
@@ -20,7 +20,7 @@ use Rattle.flow.specs.Read.{all}
 use Rattle.flow.specs.Code.{kind, numbers, row, row_of}
 use Rattle.flow.specs.Inner.Reader.{four}
 use Rattle.flow.specs.declared.Kind.{Kind}
-use Rattle.flow.specs.declared.Kind.TheVariants.{Read, Put, Copy, Set, Less, Over, Under, Nop, Stop, Zero, Up, Count}
+use Rattle.flow.specs.declared.Kind.TheVariants.{Read, Put, Copy, Set, Less, Over, Under, Nop, Stop}
 use Rattle.flow.specs.declared.Sort.{Sort}
 use Rattle.flow.specs.declared.Sort.TheVariants.{Target}
 use Rattle.flow.specs.Inner.Rows.{instruction_of, numbers_in}
@@ -41,9 +41,6 @@ every P (_, (_, (_, (_, (_, (h, t)))))) Over = h
 every P (_, (_, (_, (_, (_, (_, (h, t))))))) Under = h
 every P (_, (_, (_, (_, (_, (_, (_, (h, t)))))))) Nop = h
 every P (_, (_, (_, (_, (_, (_, (_, (_, (h, t))))))))) Stop = h
-every P (_, (_, (_, (_, (_, (_, (_, (_, (_, (h, t)))))))))) Zero = h
-every P (_, (_, (_, (_, (_, (_, (_, (_, (_, (_, (h, t))))))))))) Up = h
-every P (_, (_, (_, (_, (_, (_, (_, (_, (_, (_, (_, (h, t)))))))))))) Count = h
 
 -- a computed test: what is the same all along the table is the same of every kind
 pub tried : {A : Type 0} (f g : Kind → A) → map f kinds ≡ map g kinds → (k : Kind) → f k ≡ g k
@@ -79,9 +76,6 @@ row_back (over c v p m) = refl
 row_back (under v c p m) = refl
 row_back (nop n) = refl
 row_back stop = refl
-row_back (reset z n) = refl
-row_back (raise z n) = refl
-row_back (fewer z c p m) = refl
 
 -- what is given past a list's end, written out
 pub get_d_past : {A : Type 0} (xs : List A) (d : A) (n j : ℕ) → get_or (xs ++ replicate n d) j d ≡ get_or xs j d

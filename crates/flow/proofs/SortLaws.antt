@@ -4,7 +4,7 @@ use mathlib.Core.Bool.{Bool, true, false, cond, false≢true}
 use mathlib.Core.List.{List, [], ◌∷◌, map}
 use mathlib.Core.Option.{Option, none, some}
 use lib.IntN.{ℤ, pos}
-use Rattle.model.specs.Language.{Field, tape, output, variable, counter, target, limit, constant, constants}
+use Rattle.model.specs.Language.{Field, tape, output, variable, target, constant, constants}
 use Rattle.model.specs.Inner.Lists.{All}
 use Rattle.flow.specs.Limits.{least_constant, greatest_constant}
 use Rattle.flow.specs.Words.{may_minus, count, sort, number}
@@ -12,19 +12,17 @@ use Rattle.flow.specs.Inner.Reader.{field}
 use Rattle.flow.specs.Read.{bounds, between}
 use Rattle.flow.specs.declared.Head.{Head}
 use Rattle.flow.specs.declared.Sort.{Sort}
-use Rattle.flow.specs.declared.Sort.TheVariants.{Target, Tape, Output, Variable, Counter, Constant, Limit}
+use Rattle.flow.specs.declared.Sort.TheVariants.{Target, Tape, Output, Variable, Constant}
 
 abbrev pub all_sorts : List Sort
-all_sorts = Target ∷ Tape ∷ Output ∷ Variable ∷ Counter ∷ Constant ∷ Limit ∷ []
+all_sorts = Target ∷ Tape ∷ Output ∷ Variable ∷ Constant ∷ []
 
 pub every_sort : (P : Sort → Type 0) → All P all_sorts → (s : Sort) → P s
 every_sort P (h, t) Target = h
 every_sort P (_, (h, t)) Tape = h
 every_sort P (_, (_, (h, t))) Output = h
 every_sort P (_, (_, (_, (h, t)))) Variable = h
-every_sort P (_, (_, (_, (_, (h, t))))) Counter = h
-every_sort P (_, (_, (_, (_, (_, (h, t)))))) Constant = h
-every_sort P (_, (_, (_, (_, (_, (_, (h, t))))))) Limit = h
+every_sort P (_, (_, (_, (_, (h, t))))) Constant = h
 
 -- a computed test
 pub tried_sort : {A : Type 0} (f g : Sort → A) → map f all_sorts ≡ map g all_sorts → (s : Sort) → f s ≡ g s
@@ -52,9 +50,7 @@ unfolding constants
 constants-field (tape n) fs = refl
 constants-field (output n) fs = refl
 constants-field (variable n) fs = refl
-constants-field (counter n) fs = refl
 constants-field (target n) fs = refl
-constants-field (limit n) fs = refl
 constants-field (constant c) fs = refl
 
 -- and have the range of constants

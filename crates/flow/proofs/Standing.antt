@@ -5,12 +5,11 @@ use Prim.Native.Nat.{ℕ, zero, suc, ◌≤◌}
 use native.Mathlib.Omega.{arith}
 use lib.IntN.{ℤ}
 use lib.Signed.{lt_z}
-use lib.Dec.{ltb}
 use lib.ListN.{length}
 use Rattle.model.specs.Language.{Flow}
 use Rattle.model.specs.Machine.{State, run}
-use Rattle.model.specs.Inner.View.{View, reads, sets, tests, goes, stops, ticks, limits, view_at, term, Targeted}
-use Rattle.model.proofs.View.{on_tape, on_counter, taken, step_view}
+use Rattle.model.specs.Inner.View.{View, reads, sets, tests, goes, stops, view_at, term, Targeted}
+use Rattle.model.proofs.View.{on_tape, taken, step_view}
 use Rattle.model.proofs.Runs.{run_end}
 use Rattle.flow.specs.Legal.{Legal}
 use Rattle.flow.proofs.Tests.{legal-targets}
@@ -31,8 +30,6 @@ module _ (P : ℕ → Type 0) (s : State) where
   step_targeted (tests t u p m) h here = test_targeted (lt_z (term s.variables t) (term s.variables u)) p m h
   step_targeted (goes n) h here = h
   step_targeted stops h here = here
-  step_targeted (ticks t z n) h here = h
-  step_targeted (limits z c p m) h here = test_targeted (ltb (on_counter s z) c) p m h
 
 module _ {flow : Flow} (l : Legal flow) (tapes : List (List ℤ)) where
   pub run-stands : (n : ℕ) → (1 ≤ (run flow tapes n).next) × ((run flow tapes n).next ≤ length flow.instructions)

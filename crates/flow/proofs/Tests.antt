@@ -1,5 +1,5 @@
--- What the tests on the fields of a legal flow say: its instructions name their own tapes, variables and counters, and go on to
--- instructions that there are.
+-- What the tests on the fields of a legal flow say: its instructions name their own tapes and variables, and go on to instructions that
+-- there are.
 use mathlib.Core.Path.{◌≡◌, refl}
 use mathlib.Core.Bool.{Bool, true, false, ◌&&◌, false≢true}
 use mathlib.Core.List.{List, [], ◌∷◌}
@@ -7,7 +7,7 @@ use Prim.Native.Nat.{ℕ, ◌≤◌}
 use borrow.Author.Tests.{leb-true}
 use lib.Dec.{leb}
 use lib.ListN.{length}
-use Rattle.model.specs.Language.{Instruction, Flow, instruction, Field, tape, output, variable, counter, target, limit, constant, fields, C1, C2}
+use Rattle.model.specs.Language.{Instruction, Flow, instruction, Field, tape, output, variable, target, constant, fields, C1, C2}
 use Rattle.model.proofs.View.{OnTarget, targeted}
 use Rattle.model.proofs.Constants.{legal_basic}
 use Rattle.model.specs.Inner.Lists.{All}
@@ -37,9 +37,7 @@ ranges-sound flow h = legal_basic flow (λ i. all_hold (in_range (head flow)) (N
     one (tape n) e = counts-from-one n flow.tapes e
     one (output n) e = tt
     one (variable n) e = counts-from-one n flow.variables e
-    one (counter n) e = counts-from-one n flow.counters e
     one (target n) e = tt
-    one (limit c) e = tt
     one (constant c) e = tt
 
 -- what holds of every number from 1 up to a count holds of the targets that name one of so many instructions
@@ -51,9 +49,7 @@ named_targets P count h x e = targeted P x (all_hold (is_named count) (OnTarget 
     one (tape n) e = tt
     one (output n) e = tt
     one (variable n) e = tt
-    one (counter n) e = tt
     one (target n) e = h n (counts-from-one n count e)
-    one (limit c) e = tt
     one (constant c) e = tt
 
 pub legal-targets : (P : ℕ → Type 0) (flow : Flow) → ((n : ℕ) → (1 ≤ n) × (n ≤ length flow.instructions) → P n)

@@ -1,11 +1,11 @@
 -- One line, written and read. An instruction is its kind and the numbers in its fields; so the fields of its line are read as the
 -- instruction, and fields that are read as an instruction are those of its line. The same for line 1.
 use mathlib.Core.Path.{◌≡◌, refl, sym, ap, ap₂, ◌∙◌}
-use mathlib.Core.Bool.{Bool, true, false, cond, ◌&&◌, ◌||◌, true≢false}
+use mathlib.Core.Bool.{Bool, true, false, cond, ◌&&◌, true≢false}
 use mathlib.Core.List.{List, [], ◌∷◌, map}
 use mathlib.Core.Option
 use mathlib.Core.Option.{Option, none, some, bind}
-use Prim.Native.Nat.{ℕ, zero, suc, ◌+◌, ◌≤◌}
+use Prim.Native.Nat.{ℕ, suc, ◌+◌}
 use native.Mathlib.Omega.{arith}
 use borrow.Author.Tests.{eq-eqb, eqb-true, le-leb, ltb-true}
 use lib.Dec.{eqb, ltb}
@@ -15,23 +15,23 @@ use Rattle.model.specs.Language.{Instruction, fields}
 use Rattle.text.specs.Bytes.{bytes}
 use Rattle.text.specs.Split.{same_word}
 use Rattle.text.specs.Number.{numeral, natural, digits_after}
-use Rattle.text.specs.Write.{decimal, signed}
+use Rattle.text.specs.Write.{signed}
 use Rattle.text.proofs.Words.{same_word_lem}
 use Rattle.text.proofs.Joined.{Past, EachPart}
 use Rattle.text.proofs.Decimal.{none_no_some, decimal-read, plain_read, signed-read, natural-written, numeral-written, decimal_past, signed_past}
-use Rattle.flow.specs.Limits.{max_tapes, max_outputs, max_variables, max_counters}
+use Rattle.flow.specs.Limits.{max_tapes, max_outputs, max_variables}
 use Rattle.flow.specs.Words.{table, kinds, first_named, kind_of, sorts, may_minus, count, at, built, number}
 use Rattle.flow.specs.Inner.Reader.{field}
-use Rattle.flow.specs.Read.{ok, check, numerals, in_range, all, read_counters, head_of, read_head, read_line}
+use Rattle.flow.specs.Read.{ok, check, numerals, in_range, all, head_of, read_head, read_line}
 use Rattle.flow.specs.Code.{kind, numbers}
 use Rattle.flow.specs.Inner.Reader.{HeadFits}
 use Rattle.flow.proofs.RowLaws.{placed}
-use Rattle.flow.specs.Write.{word, counter_field, head_fields, line_fields}
+use Rattle.flow.specs.Write.{word, head_fields, line_fields}
 use Rattle.flow.specs.declared.Kind.{Kind}
 use Rattle.flow.specs.declared.Sort.{Sort}
 use Rattle.flow.specs.declared.Head.{Head}
 use Rattle.flow.specs.declared.Refusal.TheVariants.{OutOfRange}
-use Rattle.flow.proofs.HeadLaws.{HeadRead, head_read, counters-read}
+use Rattle.flow.proofs.HeadLaws.{HeadRead, head_read}
 use Rattle.flow.proofs.SortLaws.{number-field}
 use Rattle.flow.proofs.RowLaws.{tried, kind-built, fields-built, word_known, parts-built}
 use Rattle.flow.proofs.Tests.{and_split}
@@ -70,22 +70,10 @@ line_fields-read h i x =
     let wide : suc (suc (length (map signed (numbers x)))) ≡ length (sorts k) + 2 = omega (arith, length-map (numbers x) signed, length-map (fields x) number) in
     rw (word_known k, eq-eqb _ _ wide, decimal-read i, read, eq-eqb i i refl, parts-built x)
 
--- line 1 with or without the field of the counters
-counter-field-read : (z : ℕ) → z ≤ max_counters → read_counters (counter_field z) ≡ ok z
-unfolding read_counters
-counter-field-read zero few = refl
-counter-field-read (suc z) few = rw (decimal-read (suc z), le-leb 1 (suc z) (omega arith), le-leb (suc z) max_counters few)
-
-four_or_five : (w a b c : List ℕ) (z : ℕ) → let fs = w ∷ a ∷ b ∷ c ∷ counter_field z in (eqb (length fs) 4 || eqb (length fs) 5) ≡ true
-four_or_five w a b c zero = refl
-four_or_five w a b c (suc z) = refl
-
 pub head-fields-read : (h : Head) → HeadFits h → read_head (head_fields h) ≡ ok h
 unfolding read_head head_of same_word
 head-fields-read h f =
     rw (
-      four_or_five (bytes "flow") (decimal h.tapes) (decimal h.outputs) (decimal h.variables) h.counters,
-      counter-field-read h.counters f.counters,
       decimal-read h.tapes,
       decimal-read h.outputs,
       decimal-read h.variables,
@@ -195,13 +183,6 @@ line_fields-written h i fs x e = by fs (line_read h i fs x e)
         ap₂ ◌∷◌ (natural-written f i o.number) (ap₂ ◌∷◌ (word-written w o.k o.ns o.known) ns)
         ∙ ap (line_fields i) o.whole
 
-counter-field-written : (fs : List (List ℕ)) (z : ℕ) → length fs ≤ 1 → read_counters fs ≡ ok z → fs ≡ counter_field z
-unfolding read_counters
-counter-field-written [] z l e = let none : 0 ≡ z = cc in ap counter_field none
-counter-field-written (f ∷ []) zero l e = absurd (omega (arith, (counters-read f [] 0 e).1))
-counter-field-written (f ∷ []) (suc z) l e = ap₂ ◌∷◌ (natural-written f (suc z) (counters-read f [] (suc z) e).0) refl
-counter-field-written (f ∷ g ∷ fs) z l e = absurd (omega arith)
-
 pub head-fields-written : (fs : List (List ℕ)) (h : Head) → read_head fs ≡ ok h → fs ≡ head_fields h
 head-fields-written fs h e = by fs (head_read fs h e)
   where
@@ -210,11 +191,11 @@ head-fields-written fs h e = by fs (head_read fs h e)
     by (w ∷ []) o = absurd (omega (arith, o.counted))
     by (w ∷ a ∷ []) o = absurd (omega (arith, o.counted))
     by (w ∷ a ∷ b ∷ []) o = absurd (omega (arith, o.counted))
-    by (w ∷ a ∷ b ∷ c ∷ fs) o =
+    by (w ∷ a ∷ b ∷ c ∷ []) o =
         ap₂ ◌∷◌ (same_word_lem w (bytes "flow") o.word)
         (ap₂ ◌∷◌ (natural-written a h.tapes o.tapes)
-        (ap₂ ◌∷◌ (natural-written b h.outputs o.outputs)
-        (ap₂ ◌∷◌ (natural-written c h.variables o.variables) (counter-field-written fs h.counters (omega (arith, o.counted)) o.counters))))
+        (ap₂ ◌∷◌ (natural-written b h.outputs o.outputs) (ap₂ ◌∷◌ (natural-written c h.variables o.variables) refl)))
+    by (w ∷ a ∷ b ∷ c ∷ d ∷ fs) o = absurd (omega (arith, o.counted))
 
 -- ---- no field has a comma
 abbrev all_past : List ℕ → Bool
@@ -232,12 +213,8 @@ numbers_past : (zs : List ℤ) → EachPart (Past 44) (map signed zs)
 numbers_past [] = tt
 numbers_past (z ∷ zs) = (signed_past z, numbers_past zs)
 
-counter_past : (z : ℕ) → EachPart (Past 44) (counter_field z)
-counter_past zero = tt
-counter_past (suc z) = (decimal_past (suc z), tt)
-
 pub head_past : (h : Head) → EachPart (Past 44) (head_fields h)
-head_past h = (omega arith, (decimal_past h.tapes, (decimal_past h.outputs, (decimal_past h.variables, counter_past h.counters))))
+head_past h = (omega arith, (decimal_past h.tapes, (decimal_past h.outputs, (decimal_past h.variables, tt))))
 
 pub line_past : (i : ℕ) (x : Instruction) → EachPart (Past 44) (line_fields i x)
 line_past i x = (decimal_past i, (word_past x, numbers_past (numbers x)))

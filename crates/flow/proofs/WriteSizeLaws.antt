@@ -2,7 +2,7 @@
 use mathlib.Core.Path.{◌≡◌, refl, ap}
 use mathlib.Core.Bool.{true}
 use mathlib.Core.List.{List, [], ◌∷◌, map}
-use Prim.Native.Nat.{ℕ, zero, suc, ◌+◌, ◌*◌, ◌≤◌}
+use Prim.Native.Nat.{ℕ, suc, ◌+◌, ◌*◌, ◌≤◌}
 use native.Mathlib.Omega.{arith}
 use borrow.Author.Tests.{leb-true}
 use lib.Dec.{leb}
@@ -19,7 +19,7 @@ use Rattle.flow.specs.Legal.{Legal, head}
 use Rattle.flow.specs.Inner.Reader.{HeadFits}
 use Rattle.flow.specs.Words.{table, sorts, number}
 use Rattle.flow.specs.Code.{kind, numbers}
-use Rattle.flow.specs.Write.{word, counter_field, head_fields, line_fields, lines_from, write_flow}
+use Rattle.flow.specs.Write.{word, head_fields, line_fields, lines_from, write_flow}
 use Rattle.flow.specs.declared.Head.{Head}
 use Rattle.flow.proofs.RowLaws.{tried, width-bound}
 use Rattle.flow.proofs.Tests.{and_split}
@@ -28,7 +28,7 @@ use Rattle.flow.proofs.WriteLineLaws.{fields_placed, placed_length}
 use Rattle.flow.proofs.ReadLaws.{AllFit}
 
 pub head-fit : (flow : Flow) → Legal flow → HeadFits (head flow)
-head-fit flow l = record { tapes = l.tapes; outputs = l.outputs; variables = l.variables; counters = l.counters }
+head-fit flow l = record { tapes = l.tapes; outputs = l.outputs; variables = l.variables }
 
 small : (n : ℕ) → n ≤ 9999 → length (decimal n) ≤ 4
 small n l = decimal-short 3 n (omega arith)
@@ -87,10 +87,6 @@ module _ (h : Head) (f : HeadFits h) (n : ℕ) (few : n ≤ 64) where
         lines-short (suc i) xs (omega arith) (λ j. r (suc j)) (λ j. s (suc j)),
       )
 
-counter-short : (z : ℕ) → z ≤ 2 → EachPart Short (counter_field z) × (length (counter_field z) ≤ 1)
-counter-short zero l = (tt, omega arith)
-counter-short (suc z) l = ((omega (arith, small (suc z) (omega arith)), tt), omega arith)
-
 pub written-short : (flow : Flow) → Legal flow → length (write_flow flow) ≤ max_bytes
 unfolding write_flow ended
 written-short flow l =
@@ -99,7 +95,6 @@ written-short flow l =
     omega (
       arith,
       length-append (parted (head_fields (head flow))) (10 ∷ ended (lines_from 1 xs)),
-      parted-short (head_fields (head flow)) (omega arith, (count flow.tapes (omega arith), (count flow.outputs (omega arith), (count flow.variables (omega arith), (counter-short flow.counters l.counters).0)))),
-      (counter-short flow.counters l.counters).1,
+      parted-short (head_fields (head flow)) (omega arith, (count flow.tapes (omega arith), (count flow.outputs (omega arith), (count flow.variables (omega arith), tt)))),
       lines-short (head flow) (head-fit flow l) (length xs) l.size.1 1 xs (omega arith) (λ j. l.ranges (suc j)) (λ j. l.targets (suc j)),
     )

@@ -1,11 +1,11 @@
 -- How the code holds a flow: a row for each instruction, in the order of the lines, and rows of `stop` up to 64.
 use Rattle.std.specs.Prelude.{List, [], ◌++◌, map, ◌-◌, ℤ, length, replicate}
-use Rattle.model.specs.Language.{Instruction, read, put, copy, const, less, over, under, nop, stop, reset, raise, fewer, Flow, fields}
+use Rattle.model.specs.Language.{Instruction, read, put, copy, const, less, over, under, nop, stop, Flow, fields}
 use Rattle.flow.specs.Limits.{max_instructions}
 use Rattle.flow.specs.Words.{number, at}
 use Rattle.flow.specs.Read.{Checked, ok, fault}
 use Rattle.flow.specs.declared.Kind.{Kind}
-use Rattle.flow.specs.declared.Kind.TheVariants.{Read, Put, Copy, Set, Less, Over, Under, Nop, Stop, Zero, Up, Count}
+use Rattle.flow.specs.declared.Kind.TheVariants.{Read, Put, Copy, Set, Less, Over, Under, Nop, Stop}
 use Rattle.flow.specs.declared.Instruction.{Instruction as Row}
 use Rattle.flow.specs.declared.Flow.{Flow as Rows}
 use Rattle.flow.specs.declared.Answer.TheVariants.{Legal, Refused}
@@ -22,9 +22,6 @@ kind (over c v p m) = Over
 kind (under v c p m) = Under
 kind (nop n) = Nop
 kind stop = Stop
-kind (reset z n) = Zero
-kind (raise z n) = Up
-kind (fewer z c p m) = Count
 
 -- the numbers after the word, in the order of the line
 abbrev pub numbers : Instruction → List ℤ
@@ -44,13 +41,12 @@ rows_of flow = record {
   tapes = flow.tapes;
   outputs = flow.outputs;
   variables = flow.variables;
-  counters = flow.counters;
   count = length flow.instructions;
   instructions = map row_of flow.instructions ++ replicate (max_instructions - length flow.instructions) (row_of stop);
 }
 
 abbrev pub no_flow : Flow
-no_flow = record { tapes = 0; outputs = 0; variables = 0; counters = 0; instructions = [] }
+no_flow = record { tapes = 0; outputs = 0; variables = 0; instructions = [] }
 
 -- the code's answer for what a text is read as
 unfoldable pub reading_of : Checked Flow → Reading

@@ -1,16 +1,16 @@
--- The table of instructions (document 01; document 02, T-10): the word of a line, what each field after the word names, and the instruction that they make.
+-- The table of instructions (document 01): the word of a line, what each field after the word names, and the instruction that they make.
 -- The kind of a word, the count of fields and the minus signs are read off it; ranges and targets go by the model's `fields`, which name what
 -- the table names (`fields-built`, proofs/RowLaws.antt).
 use Rattle.std.specs.Prelude.{Bool, true, false, cond, List, [], ◌∷◌, ℕ, ℤ, pos, negsuc, get_or}
 use Rattle.std.proofs.Math.Option.{Option, none, some}
 use Prim.Native.String.{String}
-use Rattle.model.specs.Language.{Instruction, read, put, copy, const, less, over, under, nop, stop, reset, raise, fewer, Field, tape, output, variable, counter, target, limit, constant}
+use Rattle.model.specs.Language.{Instruction, read, put, copy, const, less, over, under, nop, stop, Field, tape, output, variable, target, constant}
 use Rattle.text.specs.Split.{same_word}
 use Rattle.text.specs.Bytes.{bytes}
 use Rattle.flow.specs.declared.Kind.{Kind}
-use Rattle.flow.specs.declared.Kind.TheVariants.{Read, Put, Copy, Set, Less, Over, Under, Nop, Stop, Zero, Up, Count}
+use Rattle.flow.specs.declared.Kind.TheVariants.{Read, Put, Copy, Set, Less, Over, Under, Nop, Stop}
 use Rattle.flow.specs.declared.Sort.{Sort}
-use Rattle.flow.specs.declared.Sort.TheVariants.{Tape, Output, Variable, Counter, Target, Limit, Constant}
+use Rattle.flow.specs.declared.Sort.TheVariants.{Tape, Output, Variable, Target, Constant}
 
 -- a line of the table: the word, the sorts of the fields after it, and the instruction of the numbers in them: n 0, n 1, .. as counts,
 -- z 0, z 1, .. as constants
@@ -33,12 +33,9 @@ table Over = form "over" (Constant ∷ Variable ∷ Target ∷ Target ∷ []) (�
 table Under = form "under" (Variable ∷ Constant ∷ Target ∷ Target ∷ []) (λ n z. under (n 0) (z 1) (n 2) (n 3))
 table Nop = form "nop" (Target ∷ []) (λ n z. nop (n 0))
 table Stop = form "stop" [] (λ n z. stop)
-table Zero = form "zero" (Counter ∷ Target ∷ []) (λ n z. reset (n 0) (n 1))
-table Up = form "up" (Counter ∷ Target ∷ []) (λ n z. raise (n 0) (n 1))
-table Count = form "count" (Counter ∷ Limit ∷ Target ∷ Target ∷ []) (λ n z. fewer (n 0) (n 1) (n 2) (n 3))
 
 abbrev pub kinds : List Kind
-kinds = Read ∷ Put ∷ Copy ∷ Set ∷ Less ∷ Over ∷ Under ∷ Nop ∷ Stop ∷ Zero ∷ Up ∷ Count ∷ []
+kinds = Read ∷ Put ∷ Copy ∷ Set ∷ Less ∷ Over ∷ Under ∷ Nop ∷ Stop ∷ []
 
 -- the first of some kinds whose word it is, and the kind that a word names
 unfoldable pub first_named : List Kind → List ℕ → Option Kind
@@ -56,9 +53,7 @@ abbrev pub may_minus : Sort → Bool
 may_minus Tape = false
 may_minus Output = false
 may_minus Variable = false
-may_minus Counter = false
 may_minus Target = false
-may_minus Limit = false
 may_minus Constant = true
 
 -- a number that counts (only a constant is read with a minus), and the number in place j
@@ -78,16 +73,12 @@ abbrev pub sort : Field → Sort
 sort (tape n) = Tape
 sort (output n) = Output
 sort (variable n) = Variable
-sort (counter n) = Counter
 sort (target n) = Target
-sort (limit n) = Limit
 sort (constant c) = Constant
 
 abbrev pub number : Field → ℤ
 number (tape n) = pos n
 number (output n) = pos n
 number (variable n) = pos n
-number (counter n) = pos n
 number (target n) = pos n
-number (limit n) = pos n
 number (constant c) = c

@@ -25,9 +25,6 @@ pub enum Kind {
     Under,
     Nop,
     Stop,
-    Zero,
-    Up,
-    Count,
 }
 
 // What a field after the word names. `Target`, the first case, also stands past the last field.
@@ -37,9 +34,7 @@ pub enum Sort {
     Tape,
     Output,
     Variable,
-    Counter,
     Constant,
-    Limit,
 }
 
 // An instruction, kept whole: the kind of its line, and the numbers after the word in their order; 0 past the last.
@@ -52,13 +47,12 @@ pub struct Instruction {
     pub fourth: i32,
 }
 
-// The counts of line 1: input tapes, output tapes, inner variables, counters.
+// The counts of line 1: input tapes, output tapes, inner variables.
 #[derive(Drop)]
 pub struct Head {
     pub tapes: u8,
     pub outputs: u8,
     pub variables: u8,
-    pub counters: u8,
 }
 
 // What line 1 is read as.
@@ -74,7 +68,6 @@ pub struct Flow {
     pub tapes: u8,
     pub outputs: u8,
     pub variables: u8,
-    pub counters: u8,
     pub count: usize,
     pub instructions: [Instruction; Flow::MAX_INSTRUCTIONS],
 }
@@ -122,24 +115,18 @@ impl Flow {
     pub const MAX_OUTPUTS: u8 = 3;
 
     pub const MAX_VARIABLES: u8 = 4;
-
-    pub const MAX_COUNTERS: u8 = 2;
-    // Tapes, variables and counters again, for the lengths of arrays.
+    // Tapes and variables again, for the lengths of arrays.
     pub const TAPES: usize = Flow::MAX_TAPES as usize;
 
     pub const VARIABLES: usize = Flow::MAX_VARIABLES as usize;
 
-    pub const COUNTERS: usize = Flow::MAX_COUNTERS as usize;
-
     pub const LEAST_CONSTANT: i32 = -9999;
 
     pub const GREATEST_CONSTANT: i32 = 9999;
-    // The c of a `count` lies from 0 to this.
-    pub const GREATEST_C: i32 = 1000;
 
-    // The counts of line 1, if tapes, outputs and variables lie in their ranges.
-    pub fn head(tapes: u8, outputs: u8, variables: u8, counters: u8) -> Headed
-        ensures { head_in result ≡ head_of tapes outputs variables counters }
+    // The counts of line 1, if they lie in their ranges.
+    pub fn head(tapes: u8, outputs: u8, variables: u8) -> Headed
+        ensures { head_in result ≡ head_of tapes outputs variables }
     {
         let t = (1 <= tapes) & (tapes <= Flow::MAX_TAPES);
         let o = outputs <= Flow::MAX_OUTPUTS;
@@ -149,7 +136,6 @@ impl Flow {
                 tapes,
                 outputs,
                 variables,
-                counters,
             });
         }
         Headed::Fault(Refusal::OutOfRange(1))
@@ -161,32 +147,30 @@ impl Flow {
         count: usize,
         instructions: [Instruction; Flow::MAX_INSTRUCTIONS],
     ) -> Self
-        ensures { result ≡ record { tapes = head.tapes; outputs = head.outputs; variables = head.variables; counters = head.counters; count = count; instructions = instructions } }
+        ensures { result ≡ record { tapes = head.tapes; outputs = head.outputs; variables = head.variables; count = count; instructions = instructions } }
     {
         Flow {
             tapes: head.tapes,
             outputs: head.outputs,
             variables: head.variables,
-            counters: head.counters,
             count,
             instructions,
         }
     }
 
-    // No outputs and no counters, and so many instructions, each of them `stop`.
+    // No outputs, and so many instructions, each of them `stop`.
     fn stops(tapes: u8, variables: u8, count: usize) -> Self
-        ensures { result ≡ record { tapes = tapes; outputs = 0; variables = variables; counters = 0; count = count; instructions = replicate max_instructions (row_of stop) } }
+        ensures { result ≡ record { tapes = tapes; outputs = 0; variables = variables; count = count; instructions = replicate max_instructions (row_of stop) } }
     {
         let head = Head {
             tapes,
             outputs: 0,
             variables,
-            counters: 0,
         };
         Flow::new(head, count, [Instruction::stop(); Flow::MAX_INSTRUCTIONS])
     }
 
-    // One tape, no outputs, one variable, no counters and the single instruction `stop`.
+    // One tape, no outputs, one variable and the single instruction `stop`.
     pub fn only_stop() -> Self
         ensures { result ≡ rows_of only_stop }
     {

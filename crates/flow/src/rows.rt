@@ -149,9 +149,7 @@ fn bounds(sort: Sort, head: Head) -> Range
         Sort::Tape => up_to(head.tapes),
         Sort::Output => up_to(head.outputs),
         Sort::Variable => up_to(head.variables),
-        Sort::Counter => up_to(head.counters),
         Sort::Constant => Range::Within(Flow::LEAST_CONSTANT, Flow::GREATEST_CONSTANT),
-        Sort::Limit => Range::Within(0, Flow::GREATEST_C),
     }
 }
 
@@ -164,9 +162,7 @@ fn targets(sort: Sort, count: u8) -> Range
         Sort::Tape => Range::Any,
         Sort::Output => Range::Any,
         Sort::Variable => Range::Any,
-        Sort::Counter => Range::Any,
         Sort::Constant => Range::Any,
-        Sort::Limit => Range::Any,
     }
 }
 

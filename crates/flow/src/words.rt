@@ -2,8 +2,8 @@
 ghost use Rattle.std.specs.Prelude.{◌≡◌, cond, ◌<◌, length, get_or};
 ghost use Rattle.std.proofs.Math.Option.{some};
 ghost use Rattle.text.specs.Split.{same_word};
-ghost use Rattle.flow.specs.Words.{first_named, kind_of, sorts, may_minus};
-ghost use Rattle.flow.specs.Inner.Reader.{kind_in, later_kinds, max_numbers, four};
+ghost use Rattle.flow.specs.Words.{kind_of, sorts, may_minus};
+ghost use Rattle.flow.specs.Inner.Reader.{kind_in, max_numbers, four};
 ghost use Rattle.flow.specs.declared.Sort.TheVariants.{Target};
 ghost use Rattle.flow.specs.Inner.Rows.{branches};
 
@@ -26,22 +26,12 @@ fn found(w: &[u8], word: &[u8], kind: Kind, otherwise: Word) -> Word
     otherwise
 }
 
-// The kind that a word names, of the later half of the table.
-fn later_kind(w: &[u8]) -> Word
-    ensures { kind_in result ≡ first_named later_kinds w.now }
-{
-    let k = found(w, b"count", Kind::Count, Word::Unknown);
-    let k = found(w, b"up", Kind::Up, k);
-    let k = found(w, b"zero", Kind::Zero, k);
-    let k = found(w, b"stop", Kind::Stop, k);
-    let k = found(w, b"nop", Kind::Nop, k);
-    found(w, b"under", Kind::Under, k)
-}
-
 pub fn kind_of(w: &[u8]) -> Word
     ensures { kind_in result ≡ kind_of w.now }
 {
-    let k = later_kind(w);
+    let k = found(w, b"stop", Kind::Stop, Word::Unknown);
+    let k = found(w, b"nop", Kind::Nop, k);
+    let k = found(w, b"under", Kind::Under, k);
     let k = found(w, b"over", Kind::Over, k);
     let k = found(w, b"less", Kind::Less, k);
     let k = found(w, b"set", Kind::Set, k);
@@ -64,9 +54,6 @@ pub fn width(kind: Kind) -> usize
         Kind::Under => 4,
         Kind::Nop => 1,
         Kind::Stop => 0,
-        Kind::Zero => 2,
-        Kind::Up => 2,
-        Kind::Count => 4,
     }
 }
 
@@ -84,9 +71,6 @@ fn sorts_of(kind: Kind) -> [Sort; Instruction::MAX_NUMBERS]
         Kind::Under => [Sort::Variable, Sort::Constant, Sort::Target, Sort::Target],
         Kind::Nop => [Sort::Target, Sort::Target, Sort::Target, Sort::Target],
         Kind::Stop => [Sort::Target, Sort::Target, Sort::Target, Sort::Target],
-        Kind::Zero => [Sort::Counter, Sort::Target, Sort::Target, Sort::Target],
-        Kind::Up => [Sort::Counter, Sort::Target, Sort::Target, Sort::Target],
-        Kind::Count => [Sort::Counter, Sort::Limit, Sort::Target, Sort::Target],
     }
 }
 
@@ -108,9 +92,7 @@ pub fn may_minus(sort: Sort) -> bool
         Sort::Tape => false,
         Sort::Output => false,
         Sort::Variable => false,
-        Sort::Counter => false,
         Sort::Target => false,
-        Sort::Limit => false,
         Sort::Constant => true,
     }
 }
@@ -129,8 +111,5 @@ pub fn two_exits(kind: Kind) -> bool
         Kind::Under => true,
         Kind::Nop => false,
         Kind::Stop => false,
-        Kind::Zero => false,
-        Kind::Up => false,
-        Kind::Count => true,
     }
 }

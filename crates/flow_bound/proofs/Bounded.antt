@@ -1,22 +1,22 @@
--- The bound holds (document 02, T-01). Every reachable configuration is one of a list of that length: each instruction with each set of tapes,
--- each pattern and each row of capped counters. So reachable configurations never outnumber the bound. No distance exceeds it, nor the number of reachable
+-- The bound holds (document 02, T-01). Every reachable configuration is one of a list of that length: each instruction with each set of tapes
+-- and each pattern. So reachable configurations never outnumber the bound. No distance exceeds it, nor the number of reachable
 -- configurations.
 use mathlib.Core.Path.{◌≡◌, refl, sym, subst}
 use mathlib.Core.Bool.{Bool, true, false}
 use mathlib.Core.List.{List, [], ◌∷◌, map}
 use mathlib.Core.Logic.{inl, inr}
-use Prim.Native.Nat.{ℕ, zero, suc, ◌-◌, ◌*◌, ◌^◌, ◌≤◌, min}
+use Prim.Native.Nat.{ℕ, suc, ◌-◌, ◌*◌, ◌^◌, ◌≤◌}
 use native.Mathlib.Omega.{arith}
 use lib.ListN.{length, length-map}
 use Rattle.graph.specs.Lists.{In, Once, Census, MoreThan}
 use Rattle.graph.proofs.Counting.{once_le, listed, length_listed, listed_in, in_map}
 use Rattle.graph.proofs.Levels.{exit-within}
 use Rattle.graph.specs.Inner.Graph.{here}
-use Rattle.model.specs.Language.{Instruction, Flow, C1, C2, largest}
+use Rattle.model.specs.Language.{Flow, C1, C2}
 use Rattle.model.specs.Machine.{State, Exit, run}
 use Rattle.model.specs.Pattern.{Mark, pattern, width_of}
 use Rattle.model.specs.Distance.{Distance}
-use Rattle.model.specs.Configuration.{Configuration, capped, Reachable}
+use Rattle.model.specs.Configuration.{Configuration, Reachable}
 use Rattle.model.specs.Inner.View.{LegalFlow}
 use Rattle.model.proofs.Lists.{all_of}
 use Rattle.model.proofs.Runs.{Fair, fair_run, weight-small}
@@ -29,16 +29,16 @@ use Rattle.patterns.proofs.Patterns.{patterns, patterns-census, patterns-number}
 use Rattle.flow.specs.Legal.{Legal}
 use Rattle.flow.proofs.Tests.{ranges-sound}
 use Rattle.flow.proofs.Standing.{run-stands}
-use Rattle.flow_bound.specs.Bound.{counter_values, bound_of}
+use Rattle.flow_bound.specs.Bound.{bound_of}
 
 -- each function of a list on each element of another: one factor of a product
 module _ {A B : Type 0} where
   each : List (A → B) → List A → List B
   each fs xs = bind (λ f. map f xs) fs
 
-  in_each : (f : A → B) (x : A) (fs : List (A → B)) (xs : List A) → In f fs → In x xs → In (f x) (each fs xs)
+  in_each_lem : (f : A → B) (x : A) (fs : List (A → B)) (xs : List A) → In f fs → In x xs → In (f x) (each fs xs)
   unfolding each
-  in_each f x fs xs h k = in_bind (λ g. map g xs) f (f x) fs h (in_map f x xs k)
+  in_each_lem f x fs xs h k = in_bind (λ g. map g xs) f (f x) fs h (in_map f x xs k)
 
   length-each : (fs : List (A → B)) (xs : List A) → length (each fs xs) ≡ length fs * length xs
   unfolding each
@@ -52,34 +52,14 @@ in_bools : (b : Bool) → In b bools
 in_bools true = inl refl
 in_bools false = inr (inl refl)
 
-abbrev composed : (next : ℕ) (ended : List Bool) (marks : List Mark) (counters : List ℕ) → Configuration
-composed i e m k = record { next = i; ended = e; marks = m; counters = k }
+abbrev composed : (next : ℕ) (ended : List Bool) (marks : List Mark) → Configuration
+composed i e m = record { next = i; ended = e; marks = m }
 
 places : Flow → List ℕ
 places flow = listed suc (length flow.instructions)
 
--- every row of the values of k counters, from number z on
-counter_rows : List Instruction → (z k : ℕ) → List (List ℕ)
-counter_rows xs z zero = [] ∷ []
-counter_rows xs z (suc k) = each (map ◌∷◌ (listed (λ j. j) (suc (largest z xs)))) (counter_rows xs (suc z) k)
-
-in_counters : (xs : List Instruction) (z : ℕ) (ks : List ℕ) → In (capped xs z ks) (counter_rows xs z (length ks))
-unfolding capped counter_rows
-in_counters xs z [] = inl refl
-in_counters xs z (k ∷ ks) =
-    let l = largest z xs in
-    in_each (λ rest. min k l ∷ rest) (capped xs (suc z) ks) _ _
-    (in_map ◌∷◌ (min k l) (listed (λ j. j) (suc l)) (listed_in (λ j. j) (suc l) (min k l) (omega arith))) (in_counters xs (suc z) ks)
-
-length-counters : (xs : List Instruction) (z k : ℕ) → length (counter_rows xs z k) ≡ counter_values xs z k
-unfolding counter_rows counter_values
-length-counters xs z zero = refl
-length-counters xs z (suc k) = simp (length-each, length-map, length_listed, length-counters xs (suc z) k)
-
 everywhere : Flow → List Configuration
-everywhere flow =
-    each (each (each (map composed (places flow)) (rows bools flow.tapes)) (patterns (C1 flow) (C2 flow) flow.variables))
-    (counter_rows flow.instructions 1 flow.counters)
+everywhere flow = each (each (map composed (places flow)) (rows bools flow.tapes)) (patterns (C1 flow) (C2 flow) flow.variables)
 
 module _ {flow : Flow} (l : Legal flow) where
   legal : LegalFlow (C1 flow) (C2 flow) flow
@@ -89,9 +69,8 @@ module _ {flow : Flow} (l : Legal flow) where
   unfolding everywhere places
   reachable_everywhere c r =
       subst (λ (x : Configuration). In x (everywhere flow)) r.arrives
-      (in_each (composed s.next s.ended (pattern (C1 flow) (C2 flow) s.variables)) (capped flow.instructions 1 s.counters) _ _
-      (in_each (composed s.next s.ended) (pattern (C1 flow) (C2 flow) s.variables) _ _
-      (in_each (composed s.next) s.ended _ _ (in_map composed s.next (places flow) place) ends) marks) counters)
+      (in_each_lem (composed s.next s.ended) (pattern (C1 flow) (C2 flow) s.variables) _ _
+      (in_each_lem (composed s.next) s.ended _ _ (in_map composed s.next (places flow) place) ends) marks)
     where
       s : State
       s = run flow r.tapes r.n
@@ -115,25 +94,12 @@ module _ {flow : Flow} (l : Legal flow) where
           (patterns-census legal.zero flow.variables l.variables.1).all (pattern (C1 flow) (C2 flow) s.variables)
           (record { values = s.variables; size = fair.values-count; is = refl })
 
-      counters : In (capped flow.instructions 1 s.counters) (counter_rows flow.instructions 1 flow.counters)
-      counters =
-          subst (λ (n : ℕ). In (capped flow.instructions 1 s.counters) (counter_rows flow.instructions 1 n)) fair.counters-count
-          (in_counters flow.instructions 1 s.counters)
-
   everywhere_number : length (everywhere flow) ≡ bound_of flow
   unfolding everywhere places bound_of
   everywhere_number =
       let number = patterns_of flow.variables (width_of (C1 flow) (C2 flow)) in
-      let values = counter_values flow.instructions 1 flow.counters in
-      let factors : length (everywhere flow) ≡ length flow.instructions * (2 ^ flow.tapes) * number * values =
-      simp (
-        length-each,
-        length-map,
-        length_listed,
-        length-rows,
-        length-counters flow.instructions 1 flow.counters,
-        patterns-number legal.zero flow.variables l.variables.1,
-      ) in
+      let factors : length (everywhere flow) ≡ length flow.instructions * (2 ^ flow.tapes) * number =
+      simp (length-each, length-map, length_listed, length-rows, patterns-number legal.zero flow.variables l.variables.1) in
       omega (arith, factors)
 
   -- ---- reachable configurations never outnumber the bound

@@ -2,7 +2,6 @@
 -- whatever else lies past the most cells stays there. Cutting off changes no answer.
 use mathlib.Core.Path.{◌≡◌, refl, sym, ap, ◌∙◌}
 use mathlib.Core.Bool.{Bool, true, false, cond}
-use mathlib.Core.List.{List}
 use Prim.Native.Nat.{ℕ, zero, suc, ◌+◌, ◌*◌, ◌^◌, ◌<◌, ◌≤◌}
 use native.Mathlib.Nat.{mul-le-mul_right}
 use native.Mathlib.Decide.{dec_lt}
@@ -10,11 +9,10 @@ use native.Mathlib.Omega.{arith}
 use lib.Dec.{ltb, ltb→lt, lt→ltb}
 use borrow.Author.Tests.{ltb-false}
 use Rattle.model.proofs.Integers.{same_test}
-use Rattle.model.specs.Language.{Instruction, largest}
 use Rattle.cells.specs.Cells.{most_cells}
 use Rattle.patterns.specs.Patterns.{patterns_of}
-use Rattle.flow_bound.specs.Bound.{counter_values, bound_answer}
-use Rattle.flow_bound.specs.Inner.Capped.{cells_cap, capped_cells, values_shown}
+use Rattle.flow_bound.specs.Bound.{bound_answer}
+use Rattle.flow_bound.specs.Inner.Capped.{cells_cap, capped_cells}
 use Rattle.flow_bound.specs.declared.BoundAnswer.TheVariants.{AtMost, Over}
 
 -- a product is cut off alike if one factor is
@@ -85,35 +83,13 @@ module _ (v w : ℕ) where
 pub power_at : (t n : ℕ) → t ≡ n → 2 ^ n ≡ 2 ^ t
 power_at t n e = ap (λ (k : ℕ). 2 ^ k) (sym e)
 
--- ---- the values of the counters
-module _ (z a b : ℕ) where
-  pub values-none : z ≡ 0 → 1 ≡ capped_cells (values_shown z a b)
-  values-none h = rw h refl
-
-  pub values_one : (r : ℕ) → z ≡ 1 → r ≡ capped_cells (a + 1) → r ≡ capped_cells (values_shown z a b)
-  values_one r h e = rw h (omega (arith, e))
-
-  pub values-two : (x y r : ℕ) → z ≡ 2 → x ≡ capped_cells (a + 1) → y ≡ capped_cells (b + 1) → r ≡ capped_cells (x * y + 0) → r ≡ capped_cells (values_shown z a b)
-  values-two x y r h p q e =
-      let one : suc b * 1 ≡ b + 1 = omega arith in
-      let first : suc a ≡ a + 1 = omega arith in
-      rw (h, one, first, e, p, q) (omega (arith, capped_product (a + 1) (b + 1)))
-
-pub values-caps : (xs : List Instruction) (z : ℕ) → z ≤ 2 → counter_values xs 1 z ≡ values_shown z (largest 1 xs) (largest 2 xs)
-unfolding counter_values
-values-caps xs zero h = refl
-values-caps xs (suc zero) h = refl
-values-caps xs (suc (suc zero)) h = refl
-values-caps xs (suc (suc (suc z))) h = absurd (omega arith)
-
--- i instructions times e sets of tapes, times the number x of patterns, which is cut off to p, times the values y of the counters, cut off to v
-pub answer_product : (i t e p v m n o x y : ℕ) → e ≡ 2 ^ t → p ≡ capped_cells x → v ≡ capped_cells y → m ≡ capped_cells (i * e + 0)
-    → n ≡ capped_cells (m * p + 0) → o ≡ capped_cells (n * v + 0) → bound_answer o ≡ bound_answer (i * (2 ^ t) * x * y)
-answer_product i t e p v m n o x y f a b c d g =
+-- i instructions times e sets of tapes, times the number x of patterns, which is cut off to p
+pub answer_product : (i t e p m n x : ℕ) → e ≡ 2 ^ t → p ≡ capped_cells x → m ≡ capped_cells (i * e + 0) → n ≡ capped_cells (m * p + 0)
+    → bound_answer n ≡ bound_answer (i * (2 ^ t) * x)
+answer_product i t e p m n x f a b c =
     let same : i * e + 0 ≡ i * e = omega arith in
-    let part : n ≡ capped_cells (i * (2 ^ t) * x) = rw (sym f, d, c, a, same) (omega (arith, capped_product (i * e) x)) in
-    let whole : o ≡ capped_cells (i * (2 ^ t) * x * y) = rw (g, part, b) (omega (arith, capped_product (i * (2 ^ t) * x) y)) in
-    ap bound_answer whole ∙ answer-capped (i * (2 ^ t) * x * y)
+    let whole : n ≡ capped_cells (i * (2 ^ t) * x) = rw (sym f, c, b, a, same) (omega (arith, capped_product (i * e) x)) in
+    ap bound_answer whole ∙ answer-capped (i * (2 ^ t) * x)
 
 -- products of what was cut off fit
 pub product_small : (x y : ℕ) → x ≤ cells_cap → y ≤ cells_cap → x * y ≤ cells_cap * cells_cap

@@ -1,22 +1,15 @@
--- The bound on the reachable configurations of a flow, and so on the cells that it takes (document 02, T-01 and T-10).
-use Rattle.std.specs.Prelude.{cond, List, ℕ, zero, suc, ◌*◌, ◌^◌, ltb, length}
-use Rattle.model.specs.Language.{Instruction, Flow, C1, C2, largest}
+-- The bound on the reachable configurations of a flow, and so on the cells that it takes (document 02, T-01).
+use Rattle.std.specs.Prelude.{cond, ℕ, ◌*◌, ◌^◌, ltb, length}
+use Rattle.model.specs.Language.{Flow, C1, C2}
 use Rattle.model.specs.Pattern.{width_of}
 use Rattle.patterns.specs.Patterns.{patterns_of}
 use Rattle.cells.specs.Cells.{most_cells}
 use Rattle.flow_bound.specs.declared.BoundAnswer.{BoundAnswer}
 use Rattle.flow_bound.specs.declared.BoundAnswer.TheVariants.{AtMost, Over}
 
--- for each of k counters, from number z on, its largest c plus 1, multiplied
-unfoldable pub counter_values : List Instruction → (z k : ℕ) → ℕ
-counter_values xs z zero = 1
-counter_values xs z (suc k) = suc (largest z xs) * counter_values xs (suc z) k
-
--- instructions, times 2 to the power T, times the number of patterns, times the values of the counters; w counts the whole numbers from C1 to C2
+-- instructions, times 2 to the power T, times the number of patterns; w counts the whole numbers from C1 to C2
 unfoldable pub bound_of : Flow → ℕ
-bound_of flow =
-    length flow.instructions * (2 ^ flow.tapes) * patterns_of flow.variables (width_of (C1 flow) (C2 flow))
-    * counter_values flow.instructions 1 flow.counters
+bound_of flow = length flow.instructions * (2 ^ flow.tapes) * patterns_of flow.variables (width_of (C1 flow) (C2 flow))
 
 -- the answer for a bound: over if it exceeds the most cells, else the bound
 unfoldable pub bound_answer : ℕ → BoundAnswer

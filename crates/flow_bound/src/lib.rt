@@ -1,15 +1,14 @@
-// The bound on the cells that a legal flow takes (document 02, T-01 and T-10). Every stage is cut off past the most cells, so nothing leaves 64 bits
+// The bound on the cells that a legal flow takes (document 02, T-01). Every stage is cut off past the most cells, so nothing leaves 64 bits
 // whatever the factors, and the answer is the same.
 ghost use Rattle.std.specs.Prelude.{◌≡◌, ◌+◌, ◌*◌, ◌^◌, ◌≤◌, length, take};
 ghost use Rattle.patterns.specs.Patterns.{patterns_of};
-ghost use Rattle.flow.specs.Limits.{max_instructions, max_tapes, max_variables, max_counters};
+ghost use Rattle.flow.specs.Limits.{max_instructions, max_tapes, max_variables};
 ghost use Rattle.flow.specs.Legal.{Legal};
 ghost use Rattle.flow.specs.Inner.Rows.{flow_of};
 ghost use Rattle.flow_bound.specs.Bound.{bound_of, bound_answer};
-ghost use Rattle.flow_bound.specs.Inner.Capped.{cells_cap, capped_cells, values_shown};
+ghost use Rattle.flow_bound.specs.Inner.Capped.{cells_cap, capped_cells};
 
 use cells::Cell;
-use constants::caps;
 use flow::{Flow, Instruction, Refusal};
 
 // How many cells a flow takes: so many at most, or more than are used; or why its text is refused.
@@ -77,22 +76,6 @@ fn tape_sets(t: u8) -> u64
     8
 }
 
-// The values of z counters: for each its largest c plus 1, multiplied.
-fn counter_values(z: u8, first: u32, second: u32) -> u64
-    requires { z ≤ max_counters }
-    ensures { (result ≡ capped_cells (values_shown z first second)) × (result ≤ cells_cap) }
-{
-    if z == 0 {
-        return 1;
-    }
-    let a = capped(first as u64 + 1);
-    if z == 1 {
-        return a;
-    }
-    let b = capped(second as u64 + 1);
-    times_plus(a, b, 0)
-}
-
 // The number of instructions that the first rows hold. All rows are passed because only so is it known how many there are.
 fn instruction_count(instructions: [Instruction; Flow::MAX_INSTRUCTIONS], count: usize) -> u64
     requires { count ≤ max_instructions }
@@ -111,8 +94,7 @@ fn answer_for(n: u64) -> BoundAnswer
     BoundAnswer::AtMost(n as usize)
 }
 
-// How many cells a legal flow takes at most: its instructions, times the sets of tapes whose end was met, times the patterns, times the values of
-// the counters.
+// How many cells a legal flow takes at most: its instructions, times the sets of tapes whose end was met, times the patterns.
 pub fn bound_of(flow: Flow) -> BoundAnswer
     requires { Legal (flow_of flow) × (flow.count ≤ max_instructions) }
     ensures { result ≡ bound_answer (bound_of (flow_of flow)) }
@@ -122,8 +104,5 @@ pub fn bound_of(flow: Flow) -> BoundAnswer
     let places = instruction_count(instructions, flow.count);
     let ends = tape_sets(flow.tapes);
     let patterns = pattern_count(flow.variables, w);
-    let caps = caps::caps_of(flow);
-    let values = counter_values(flow.counters, caps[0], caps[1]);
-    let patterned = times_plus(times_plus(places, ends, 0), patterns, 0);
-    answer_for(times_plus(patterned, values, 0))
+    answer_for(times_plus(times_plus(places, ends, 0), patterns, 0))
 }

@@ -1,6 +1,5 @@
 -- A step of the code is a step of the machine on the state that the code holds. What is left of a tape is a part of the row, so that
--- reading a record moves the tape's place on by one; every other kind leaves the places alone, and a read leaves the counters alone.
--- A fact of a row is shown for its kind.
+-- reading a record moves the tape's place on by one; every other kind leaves the places alone. A fact of a row is shown for its kind.
 use mathlib.Core.Path.{◌≡◌, refl, sym, subst, ap, ◌∙◌}
 use mathlib.Core.Bool.{true, false}
 use mathlib.Core.List.{List, [], ◌∷◌}
@@ -15,7 +14,7 @@ use Rattle.model.specs.Machine.{step_by, exit_by, State, read_from, has_record, 
 use Rattle.flow.specs.declared.Instruction.{Instruction as Row}
 use Rattle.flow.specs.declared.Kind.{Kind}
 use Rattle.flow.specs.declared.Kind.TheVariants.{Read}
-use Rattle.flow.specs.Limits.{max_tapes, max_variables, max_counters}
+use Rattle.flow.specs.Limits.{max_tapes, max_variables}
 use Rattle.flow.specs.Inner.Rows.{instruction_of, branches}
 use Rattle.interpreter.proofs.RowLaws.{put_fits}
 use Rattle.interpreter.specs.declared.Onward.{Onward}
@@ -53,25 +52,24 @@ fits_kind x e h = subst RowFits (ap (kinded x) e) h
 
 pub fits_put : (x : Row) → outputs x.kind ≡ true → RowFits x → ((1 ≤ count_at x 0) × (count_at x 0 ≤ 4)) × ((1 ≤ count_at x 1) × (count_at x 1 ≤ 255))
 unfolding RowFits
-fits_put x e h = put_fits x max_tapes max_variables max_counters e h
+fits_put x e h = put_fits x max_tapes max_variables e h
 
 -- ---- a step
 
-module _ (x : Row) (row : List ℤ) (ends : List ℕ) (vs : List ℤ) (at cs : List ℕ) where
+module _ (x : Row) (row : List ℤ) (ends : List ℕ) (vs : List ℤ) (at : List ℕ) where
   -- a row steps as the row of its kind does
-  pub stepped : {k : Kind} {vs' w : List ℤ} {at' b cs' d : List ℕ} {went t : Onward}
-      → x.kind ≡ k → vs' ≡ w → at' ≡ b → cs' ≡ d → went ≡ t
-      → ((n : ℕ) → step_by (instruction_of (kinded x k)) (held n row vs at ends cs) ≡ held t.next row w b ends d)
-      → ((n : ℕ) → exit_by (instruction_of (kinded x k)) (held n row vs at ends cs) ≡ exit_when (branches k) t.first)
+  pub stepped : {k : Kind} {vs' w : List ℤ} {at' b : List ℕ} {went t : Onward}
+      → x.kind ≡ k → vs' ≡ w → at' ≡ b → went ≡ t
+      → ((n : ℕ) → step_by (instruction_of (kinded x k)) (held n row vs at ends) ≡ held t.next row w b ends)
+      → ((n : ℕ) → exit_by (instruction_of (kinded x k)) (held n row vs at ends) ≡ exit_when (branches k) t.first)
       → length b ≡ length at
-      → Stepped x row ends vs at cs vs' at' cs' went
-  stepped {k} {vs'} {w} {at'} {b} {cs'} {d} {went} {t} is gets moves counts tells state exit kept =
-      subst (λ (y : Row). Stepped y row ends vs at cs vs' at' cs' went) (sym (ap (kinded x) is))
-      (subst (λ (l : List ℤ). Stepped (kinded x k) row ends vs at cs l at' cs' went) (sym gets)
-      (subst (λ (l : List ℕ). Stepped (kinded x k) row ends vs at cs w l cs' went) (sym moves)
-      (subst (λ (l : List ℕ). Stepped (kinded x k) row ends vs at cs w b l went) (sym counts)
-      (subst (λ (o : Onward). Stepped (kinded x k) row ends vs at cs w b d o) (sym tells)
-      (record { state = state; exit = exit; kept = kept })))))
+      → Stepped x row ends vs at vs' at' went
+  stepped {k} {vs'} {w} {at'} {b} {went} {t} is gets moves tells state exit kept =
+      subst (λ (y : Row). Stepped y row ends vs at vs' at' went) (sym (ap (kinded x) is))
+      (subst (λ (l : List ℤ). Stepped (kinded x k) row ends vs at l at' went) (sym gets)
+      (subst (λ (l : List ℕ). Stepped (kinded x k) row ends vs at w l went) (sym moves)
+      (subst (λ (o : Onward). Stepped (kinded x k) row ends vs at w b o) (sym tells)
+      (record { state = state; exit = exit; kept = kept }))))
 
   -- a read steps by whether its tape has a record left
   module _ (is : x.kind ≡ Read) (placed : Placed row at ends) (few : count_at x 0 - 1 < 3) where
@@ -79,12 +77,12 @@ module _ (x : Row) (row : List ℤ) (ends : List ℕ) (vs : List ℤ) (at cs : L
     tape-left = left_at row at ends (count_at x 0 - 1) (omega arith) (omega arith)
 
     abbrev reads : List ℤ → ℕ → State
-    reads l n = read_from l (count_at x 0) (count_at x 1) (count_at x 2) (count_at x 3) (held n row vs at ends cs)
+    reads l n = read_from l (count_at x 0) (count_at x 1) (count_at x 2) (count_at x 3) (held n row vs at ends)
 
-    pub read_none : {went : Onward} → get_or ends (count_at x 0 - 1) 0 ≤ get_or at (count_at x 0 - 1) 0 → went ≡ either_on x false → Stepped x row ends vs at cs vs at cs went
+    pub read_none : {went : Onward} → get_or ends (count_at x 0 - 1) 0 ≤ get_or at (count_at x 0 - 1) 0 → went ≡ either_on x false → Stepped x row ends vs at vs at went
     read_none used goes =
         let none = tape-left ∙ used-up row (get_or at (count_at x 0 - 1) 0) (get_or ends (count_at x 0 - 1) 0) used in
-        stepped is refl refl refl goes
+        stepped is refl refl goes
         (λ n. ap (λ (l : List ℤ). reads l n) none)
         (λ n. ap (λ (l : List ℤ). some (exit_if (has_record l))) none)
         refl
@@ -95,11 +93,11 @@ module _ (x : Row) (row : List ℤ) (ends : List ℕ) (vs : List ℤ) (at cs : L
         → vs' ≡ set vs (count_at x 1 - 1) (get_or row k (pos 0))
         → at' ≡ set at (count_at x 0 - 1) (k + 1)
         → went ≡ either_on x true
-        → Stepped x row ends vs at cs vs' at' cs went
+        → Stepped x row ends vs at vs' at' went
     read_some k is_at left gets moves goes =
-        stepped is gets moves refl goes
+        stepped is gets moves goes
         (λ n. ap (λ (l : List ℤ). reads l n) next
-        ∙ (λ i. record { next = count_at x 2; variables = set vs (count_at x 1 - 1) (get_or row k (pos 0)); left = rest i; ended = []; counters = cs }))
+        ∙ (λ i. record { next = count_at x 2; variables = set vs (count_at x 1 - 1) (get_or row k (pos 0)); left = rest i; ended = [] }))
         (λ n. ap (λ (l : List ℤ). some (exit_if (has_record l))) next)
         (length-set at (count_at x 0 - 1) (k + 1))
       where

@@ -1,5 +1,5 @@
 -- A row of the code's flow is the flow's instruction: it stops, puts and names what the instruction does, and a legal flow has only rows
--- that name tapes, variables and counters that there are and go on to rows that there are.
+-- that name tapes and variables that there are and go on to rows that there are.
 use mathlib.Core.Path.{◌≡◌, refl, sym, subst, ap, ◌∙◌}
 use mathlib.Core.Bool.{Bool, true, false, cond, false≢true}
 use mathlib.Core.List.{List, [], ◌∷◌, map}
@@ -45,8 +45,8 @@ put-kind k e = by (outputs k) e (tried (λ j. cond (outputs j) Put j) (λ j. j) 
     by true e h = sym h
     by false e h = absurd (false≢true e)
 
-pub put_fits : (x : Row) (t v z : ℕ) → outputs x.kind ≡ true → FieldsFit t v z (fields (instruction_of x)) → ((1 ≤ count_at x 0) × (count_at x 0 ≤ v)) × ((1 ≤ count_at x 1) × (count_at x 1 ≤ 255))
-put_fits x t v z e h = let f = subst (λ (k : Kind). FieldsFit t v z (fields (built k (numbers_in x)))) (put-kind x.kind e) h in (f.0, f.1.0)
+pub put_fits : (x : Row) (t v : ℕ) → outputs x.kind ≡ true → FieldsFit t v (fields (instruction_of x)) → ((1 ≤ count_at x 0) × (count_at x 0 ≤ v)) × ((1 ≤ count_at x 1) × (count_at x 1 ≤ 255))
+put_fits x t v e h = let f = subst (λ (k : Kind). FieldsFit t v (fields (built k (numbers_in x)))) (put-kind x.kind e) h in (f.0, f.1.0)
 
 -- ---- where an instruction leads
 
@@ -85,12 +85,12 @@ module _ (flow : Rows) (next : ℕ) (is : (1 ≤ next) × (next ≤ length (flow
       number (suc k) h = let e : suc k - 1 ≡ k = omega arith in rw e refl
 
   module _ (legal : Legal (flow_of flow)) where
-    pub flow_fits : FieldsFit flow.tapes flow.variables flow.counters (fields (instruction_of (get_or flow.instructions (next - 1) d)))
+    pub flow_fits : FieldsFit flow.tapes flow.variables (fields (instruction_of (get_or flow.instructions (next - 1) d)))
     unfolding flow_of
     flow_fits =
-        subst (λ (i : Instruction). FieldsFit flow.tapes flow.variables flow.counters (fields i)) row_is
+        subst (λ (i : Instruction). FieldsFit flow.tapes flow.variables (fields i)) row_is
         (ranges-fit (head (flow_of flow)) legal.outputs (length (flow_of flow).instructions) (fields (instruction (flow_of flow) next)) (legal.ranges next) (legal.targets next))
 
     pub row_fits : RowFits (get_or flow.instructions (next - 1) d)
     unfolding RowFits flow_of
-    row_fits = fit-more (fields (instruction_of (get_or flow.instructions (next - 1) d))) legal.tapes.1 legal.variables.1 legal.counters flow_fits
+    row_fits = fit-more (fields (instruction_of (get_or flow.instructions (next - 1) d))) legal.tapes.1 legal.variables.1 flow_fits

@@ -1,6 +1,5 @@
--- The loop's locals show the progress of the run: the state that they hold is the machine's but for variables, tapes and counters that
--- the flow does not declare, no counter exceeds the steps done, and the rows and counts are as far. One turn of the loop is one step
--- onward, and keeps this.
+-- The loop's locals show the progress of the run: the state that they hold is the machine's but for variables and tapes that the flow does
+-- not declare, and the rows and counts are as far. One turn of the loop is one step onward, and keeps this.
 use mathlib.Core.Path.{◌≡◌, refl, sym, subst, ap, ap₂, ◌∙◌}
 use mathlib.Core.Bool.{Bool, true, false, cond, ◌&&◌, false≢true}
 use mathlib.Core.List.{List, [], ◌∷◌, ◌++◌, map, append-nil, append_assoc, map-append}
@@ -22,11 +21,10 @@ use Rattle.flow.specs.declared.Flow.{Flow as Rows}
 use Rattle.flow.specs.declared.Instruction.{Instruction as Row}
 use Rattle.flow.proofs.Tests.{ranges-sound}
 use Rattle.interpreter.proofs.Narrow.{Narrow, same-value, narrow_step, narrow_exit}
-use Rattle.interpreter.proofs.CounterLaws.{step-few}
 use Rattle.interpreter.proofs.RowLaws.{putting, row-stops, row-puts, put_fits, leads_on, row_is, flow_fits}
 use Rattle.flow.specs.Inner.Rows.{instruction_of, flow_of, branches}
 use Rattle.interpreter.specs.declared.Onward.{Onward}
-use Rattle.interpreter.specs.Inner.Arrays.{AtMost, FieldsFit, count_at, held, Placed, stops, outputs, exit_when, Stepped}
+use Rattle.interpreter.specs.Inner.Arrays.{FieldsFit, count_at, held, Placed, stops, outputs, exit_when, Stepped}
 use Rattle.interpreter.specs.Run.{Output, Progress, coming, puts_by, counted, onward, is_stop, fit, written}
 
 -- one cell more of a row is written
@@ -44,9 +42,9 @@ pub length-written : {A : Type 0} (xs row : List A) → length xs ≤ length row
 length-written xs row h = omega (arith, length-append xs (drop (length xs) row), length-drop (length xs) row)
 
 -- a step's put, if any, in the puts done and in a row
-puts-on : (b : Bool) (ps : List Output) (o : Output) → cond b (length ps + 1) (length ps) ≡ length (ps ++ cond b (o ∷ []) [])
-puts-on true ps o = sym (length-append ps (o ∷ []))
-puts-on false ps o = ap length (sym (append-nil ps))
+puts_on : (b : Bool) (ps : List Output) (o : Output) → cond b (length ps + 1) (length ps) ≡ length (ps ++ cond b (o ∷ []) [])
+puts_on true ps o = sym (length-append ps (o ∷ []))
+puts_on false ps o = ap length (sym (append-nil ps))
 
 few_on : (b : Bool) (n cells : ℕ) → n ≤ cells → b && leb cells n ≡ false → cond b (n + 1) n ≤ cells
 few_on true n cells h e = omega (arith, leb-false cells n e)
@@ -77,7 +75,6 @@ pub record Locals : Type 0 where
   pub next : ℕ
   pub variables : List ℤ
   pub at : List ℕ
-  pub counters : List ℕ
   pub puts : ℕ
   pub numbers : List ℕ
   pub values : List ℤ
@@ -86,8 +83,7 @@ pub record Locals : Type 0 where
 
 module _ (flow : Rows) (cells : ℕ) (row : List ℤ) (ends : List ℕ) (numbers₀ : List ℕ) (values₀ : List ℤ) where
   pub record Shows (r : Progress) (l : Locals) : Type 0 where
-    pub state : Narrow (flow_of flow) r.state (held l.next row l.variables l.at ends l.counters)
-    pub counters : AtMost r.steps l.counters
+    pub state : Narrow flow.tapes flow.variables r.state (held l.next row l.variables l.at ends)
     pub named : (1 ≤ l.next) × (l.next ≤ length (flow_of flow).instructions)
     pub placed : Placed row l.at ends
     pub puts : l.puts ≡ length r.puts
@@ -102,7 +98,7 @@ module _ (flow : Rows) (cells : ℕ) (row : List ℤ) (ends : List ℕ) (numbers
     pub puts : l'.puts ≡ cond (outputs x.kind) (l.puts + 1) l.puts
     pub numbers : l'.numbers ≡ cond (outputs x.kind) (set l.numbers l.puts (count_at x 1)) l.numbers
     pub values : l'.values ≡ cond (outputs x.kind) (set l.values l.puts (get_or l.variables (count_at x 0 - 1) (pos 0))) l.values
-    pub stepped : Stepped x row ends l.variables l.at l.counters l'.variables l'.at l'.counters went
+    pub stepped : Stepped x row ends l.variables l.at l'.variables l'.at went
     pub p : l'.p ≡ counted (exit_when (branches x.kind) went.first) p_exit l.next l.p
     pub m : l'.m ≡ counted (exit_when (branches x.kind) went.first) m_exit l.next l.m
     pub next : l'.next ≡ went.next
@@ -115,12 +111,12 @@ module _ (flow : Rows) (cells : ℕ) (row : List ℤ) (ends : List ℕ) (numbers
       x = get_or flow.instructions (l.next - 1) d
 
       abbrev w : State
-      w = held l.next row l.variables l.at ends l.counters
+      w = held l.next row l.variables l.at ends
 
-      fit_row : FieldsFit flow.tapes flow.variables flow.counters (fields (instruction_of x))
+      fit_row : FieldsFit flow.tapes flow.variables (fields (instruction_of x))
       fit_row = flow_fits flow l.next shows.named d legal
 
-      -- it names tapes, variables and counters of the flow
+      -- it names tapes and variables of the flow
       own : SoundView (C1 (flow_of flow)) (C2 (flow_of flow)) (flow_of flow) (view (instruction_of x))
       own =
           subst (λ (i : Instruction). SoundView (C1 (flow_of flow)) (C2 (flow_of flow)) (flow_of flow) (view i)) (row_is flow l.next shows.named d)
@@ -144,7 +140,7 @@ module _ (flow : Rows) (cells : ℕ) (row : List ℤ) (ends : List ℕ) (numbers
           same : (b : Bool) → outputs x.kind ≡ b
               → cond b (putting (count_at x 1) (value r.state (count_at x 0))) [] ≡ cond b (putting (count_at x 1) (value w (count_at x 0))) []
           same true e = ap (putting (count_at x 1))
-              (same-value (flow_of flow) r.state w shows.state (count_at x 0 - 1) (omega (arith, put_fits x flow.tapes flow.variables flow.counters e fit_row)))
+              (same-value (flow_of flow) r.state w shows.state (count_at x 0 - 1) (omega (arith, put_fits x flow.tapes flow.variables e fit_row)))
           same false e = refl
 
       -- a put that has a free cell
@@ -160,7 +156,7 @@ module _ (flow : Rows) (cells : ℕ) (row : List ℤ) (ends : List ℕ) (numbers
       puts-count : cond (outputs x.kind) (l.puts + 1) l.puts ≡ length (onward (flow_of flow) r).puts
       puts-count =
           ap (λ (n : ℕ). cond (outputs x.kind) (n + 1) n) shows.puts
-          ∙ puts-on (outputs x.kind) r.puts out
+          ∙ puts_on (outputs x.kind) r.puts out
           ∙ ap length (sym onward-puts)
 
       pub does_fit : outputs x.kind && leb cells l.puts ≡ false → fit (some cells) (onward (flow_of flow) r).puts ≡ true
@@ -193,10 +189,9 @@ module _ (flow : Rows) (cells : ℕ) (row : List ℤ) (ends : List ℕ) (numbers
       unfolding flow_of
       shows_onward {went} {l'} goes free turn =
           record {
-            state = subst (λ (i : Instruction). Narrow (flow_of flow) (step_by i r.state) w') (sym coming-is)
-                (subst (λ (u : State). Narrow (flow_of flow) (step_by (instruction_of x) r.state) u) moved
+            state = subst (λ (i : Instruction). Narrow flow.tapes flow.variables (step_by i r.state) w') (sym coming-is)
+                (subst (λ (u : State). Narrow flow.tapes flow.variables (step_by (instruction_of x) r.state) u) moved
                 (narrow_step (flow_of flow) r.state w shows.state (C1 (flow_of flow)) (C2 (flow_of flow)) (instruction_of x) own));
-            counters = subst (λ (u : State). AtMost (suc r.steps) u.counters) moved (step-few w r.steps shows.counters (instruction_of x));
             named = subst (λ (u : State). (1 ≤ u.next) × (u.next ≤ length (flow_of flow).instructions)) moved
                 (leads_on (length (flow_of flow).instructions) w (instruction_of x) names shows.named);
             placed = record { places = turn.stepped.kept ∙ shows.placed.places; three = shows.placed.three; within = shows.placed.within };
@@ -209,10 +204,10 @@ module _ (flow : Rows) (cells : ℕ) (row : List ℤ) (ends : List ℕ) (numbers
           }
         where
           w' : State
-          w' = held l'.next row l'.variables l'.at ends l'.counters
+          w' = held l'.next row l'.variables l'.at ends
 
           moved : step_by (instruction_of x) w ≡ w'
-          moved = turn.stepped.state l.next ∙ ap (λ (n : ℕ). held n row l'.variables l'.at ends l'.counters) (sym turn.next)
+          moved = turn.stepped.state l.next ∙ ap (λ (n : ℕ). held n row l'.variables l'.at ends) (sym turn.next)
 
           names : all (is_named (length (flow_of flow).instructions)) (fields (instruction_of x)) ≡ true
           names =

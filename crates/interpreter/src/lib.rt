@@ -1,26 +1,23 @@
 // The interpreter: a run of a flow on tapes in a row, with a step limit and two output rows (document 01, "Runs").
 //
-// `run` gives what `row_run` of specs/Run.antt says. The loop indexes the instructions itself, holds the variables, the tapes'
-// places and the counters as arrays, and lends these to functions that each do one thing of a step: nothing large is copied.
+// `run` gives what `row_run` of specs/Run.antt says. The loop indexes the instructions itself, holds the variables and
+// the tapes' places as arrays, and lends these to functions that each do one thing of a step: nothing large is copied.
 
-ghost use Rattle.std.specs.Prelude.{◌≡◌, true, false, cond, ◌&&◌, List, ℕ, ◌+◌, ◌-◌, ◌≤◌, ◌<◌, min, leb, ltb, pos, length, get_or, set};
+ghost use Rattle.std.specs.Prelude.{◌≡◌, true, false, cond, ◌&&◌, ◌+◌, ◌-◌, ◌≤◌, ◌<◌, min, leb, pos, length, get_or, set};
 ghost use Rattle.model.specs.Machine.{p_exit, m_exit};
-ghost use Rattle.flow.specs.Limits.{max_instructions, max_variables, max_counters};
-ghost use Rattle.flow.specs.Words.{count as counting};
+ghost use Rattle.flow.specs.Limits.{max_instructions, max_variables};
 ghost use Rattle.flow.specs.Inner.Reader.{max_numbers};
 ghost use Rattle.flow.specs.Legal.{Legal};
 ghost use Rattle.flow.specs.declared.Kind.TheVariants.{Read};
 ghost use Rattle.flow.specs.Inner.Rows.{flow_of, branches};
 ghost use Rattle.model.specs.Tapes.{total};
 ghost use Rattle.interpreter.specs.Run.{max_steps, row_run, ran_of, written, tapes_put, values_put, counted};
-ghost use Rattle.interpreter.specs.Inner.Arrays.{AtMost, Placed, RowFits, count_at, straight_on, either_on, stops, outputs, exit_when, Stepped, held_run};
+ghost use Rattle.interpreter.specs.Inner.Arrays.{Placed, RowFits, count_at, straight_on, either_on, stops, outputs, exit_when, Stepped, held_run};
 
 use flow::{Flow, Instruction, Kind, Refusal, words};
 
-// A value for each variable and each counter, a number for each tape, a count for each instruction.
+// A value for each variable, a number for each tape, a count for each instruction.
 pub type Variables = [i32; Flow::VARIABLES];
-
-pub type Counters = [u32; Flow::COUNTERS];
 
 pub type PerTape = [usize; Flow::TAPES];
 
@@ -67,9 +64,6 @@ fn is_stop(kind: Kind) -> bool
         Kind::Under => false,
         Kind::Nop => false,
         Kind::Stop => true,
-        Kind::Zero => false,
-        Kind::Up => false,
-        Kind::Count => false,
     }
 }
 
@@ -86,9 +80,6 @@ fn is_put(kind: Kind) -> bool
         Kind::Under => false,
         Kind::Nop => false,
         Kind::Stop => false,
-        Kind::Zero => false,
-        Kind::Up => false,
-        Kind::Count => false,
     }
 }
 
@@ -118,31 +109,6 @@ fn assign(variables: &mut Variables, v: usize, y: i32)
 {
     let i = v - 1;
     variables[i] = y;
-}
-
-// The value of counter number z.
-fn counter(counters: &Counters, z: usize) -> u32
-    requires { (1 ≤ z) × (z ≤ max_counters) }
-    ensures { result ≡ get_or counters.now (z - 1) 0 }
-{
-    let i = z - 1;
-    counters[i]
-}
-
-// k to counter number z.
-fn set_counter(counters: &mut Counters, z: usize, k: u32)
-    requires { (1 ≤ z) × (z ≤ max_counters) }
-    ensures { counters.new ≡ set counters.old (z - 1) k }
-{
-    let i = z - 1;
-    counters[i] = k;
-}
-
-// Whether the value k of a counter is below the c of a `count`; a row's c that is below 0 counts as 0.
-fn below(k: u32, c: i32) -> bool
-    ensures { result ≡ ltb k (counting c) }
-{
-    (k as i64) < c as i64
 }
 
 // Writes what an instruction puts into the output rows, if it is a put, and gives the number of puts done then.
@@ -206,7 +172,7 @@ fn either(x: Instruction, first: bool) -> Onward
     }
 }
 
-// The step of a read, which leaves the counters alone: on to P if the tape has a record left.
+// The step of a read: on to P if the tape has a record left.
 fn read_record(
     x: Instruction,
     records: &[i32],
@@ -217,8 +183,8 @@ fn read_record(
     requires kind_value { x.kind ≡ Read }
     requires row_fits { RowFits x }
     requires placed { Placed records.now at.old ends.now }
-    ensures { (cs : List ℕ) → Stepped x records.now ends.now
-        variables.old at.old cs variables.new at.new cs result }
+    ensures { Stepped x records.now ends.now
+        variables.old at.old variables.new at.new result }
 {
     let i = x.count(0) - 1;
     let j = x.count(1) - 1;
@@ -239,14 +205,12 @@ fn step(
     variables: &mut Variables,
     at: &mut PerTape,
     ends: &PerTape,
-    counters: &mut Counters,
 ) -> Onward
     requires kind_value { stops x.kind ≡ false }
     requires row_fits { RowFits x }
     requires placed { Placed records.now at.old ends.now }
-    requires at_most { AtMost max_steps counters.old }
-    ensures { Stepped x records.now ends.now variables.old at.old counters.old
-        variables.new at.new counters.new result }
+    ensures { Stepped x records.now ends.now
+        variables.old at.old variables.new at.new result }
 {
     let kind = x.kind;
     match kind {
@@ -285,19 +249,6 @@ fn step(
                 first: true,
                 next: 0,
             };
-        }
-        Kind::Zero => {
-            set_counter(counters, x.count(0), 0);
-            return straight(x, 1);
-        }
-        Kind::Up => {
-            let z = x.count(0);
-            let k = counter(counters, z);
-            set_counter(counters, z, k + 1);
-            return straight(x, 1);
-        }
-        Kind::Count => {
-            return either(x, below(counter(counters, x.count(0)), x.number(1)));
         }
     }
 }
@@ -344,7 +295,6 @@ fn run_from(
     let mut next: usize = 1;
     let mut variables: Variables = [0; Flow::VARIABLES];
     let mut at = places;
-    let mut counters: Counters = [0; Flow::COUNTERS];
     let mut p: PerInstruction = [0; Flow::MAX_INSTRUCTIONS];
     let mut m: PerInstruction = [0; Flow::MAX_INSTRUCTIONS];
     let mut steps: u64 = 0;
@@ -363,7 +313,7 @@ fn run_from(
             break RunEnd::Full;
         }
         puts = put(x, &variables, puts, numbers, values);
-        let went = step(x, records, &mut variables, &mut at, &ends, &mut counters);
+        let went = step(x, records, &mut variables, &mut at, &ends);
         count(kind, went.first, next, &mut p, &mut m);
         next = went.next;
         steps += 1;

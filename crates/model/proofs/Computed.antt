@@ -12,7 +12,7 @@ use lib.IntN.{ℤ, pos, suc_ℤ, ◌+ℤ◌, neg_ℤ}
 use lib.Signed.{lt_z}
 use lib.ListN.{length, get_or}
 use lib.Dec.{T, ltb, leb, eqb, ltb→lt, nltb→le, leb→le, eqb→eq, eqb_refl, T_not}
-use Rattle.model.specs.Language.{Instruction, stop, Flow, Field, tape, output, variable, counter, target, limit, constant, fields, C1, C2}
+use Rattle.model.specs.Language.{Instruction, stop, Flow, Field, tape, output, variable, target, constant, fields, C1, C2}
 use Rattle.model.specs.Machine.{Exit, p_exit, step, exit_of}
 use Rattle.model.specs.Pattern.{Mark, inside, above, below, equal}
 use Rattle.graph.specs.Lists.{In, Once, Census}
@@ -31,7 +31,7 @@ use Rattle.model.proofs.Theorems.{Taking, distance_of-exit, none_of_exit, reacha
 use Rattle.model.proofs.Constants.{legal_basic}
 use Rattle.model.specs.Inner.Lists.{All}
 use Rattle.model.specs.Inner.Integers.{up, dn}
-use Rattle.model.specs.Inner.View.{View, reads, sets, tests, goes, stops, ticks, limits, view_at, Numbered, LegalFlow}
+use Rattle.model.specs.Inner.View.{View, reads, sets, tests, goes, stops, view_at, Numbered, LegalFlow}
 
 -- ---- equality of configurations is decided by computation
 abbrev pub decided : {P : Type 0} (b : Bool) → (T b → P) → (P → T b) → Dec P
@@ -54,9 +54,6 @@ same_dec f g (no p) = no (λ q. p (g q))
 
 pub eqb_out : (j k : ℕ) → j ≡ k → T (eqb j k)
 eqb_out j k e = subst (λ (n : ℕ). T (eqb j n)) e (eqb_refl j)
-
-abbrev pub number_dec : (j k : ℕ) → Dec (j ≡ k)
-number_dec j k = decided (eqb j k) (eqb→eq j k) (eqb_out j k)
 
 abbrev pub list_dec : {A : Type 0} → ((x y : A) → Dec (x ≡ y)) → (l m : List A) → Dec (l ≡ m)
 list_dec d [] [] = yes refl
@@ -91,14 +88,10 @@ mark_dec (below j) (above k) = no (marks-apart (below j) (above k) tt)
 mark_dec (below j) (below k) = decided (eqb j k) (λ h. ap below (eqb→eq j k h)) (λ e. eqb_out j k (ap (λ (m : Mark). up (amount m)) e))
 
 abbrev pub configuration_dec : (c d : Configuration) → Dec (c ≡ d)
-configuration_dec c d = same_dec (λ h i. record { next = h.0 i; ended = h.1.0 i; marks = h.1.1.0 i; counters = h.1.1.1 i })
-    (λ e. (
-      ap (λ (b : Configuration). b.next) e,
-      (ap (λ (b : Configuration). b.ended) e, (ap (λ (b : Configuration). b.marks) e, ap (λ (b : Configuration). b.counters) e)),
-    ))
-    (both_dec (number_dec c.next d.next)
-    (both_dec (list_dec Bool-discrete c.ended d.ended)
-    (both_dec (list_dec mark_dec c.marks d.marks) (list_dec number_dec c.counters d.counters))))
+configuration_dec c d = same_dec (λ h i. record { next = h.0 i; ended = h.1.0 i; marks = h.1.1 i })
+    (λ e. (ap (λ (b : Configuration). b.next) e, (ap (λ (b : Configuration). b.ended) e, ap (λ (b : Configuration). b.marks) e)))
+    (both_dec (decided (eqb c.next d.next) (eqb→eq c.next d.next) (eqb_out c.next d.next))
+    (both_dec (list_dec Bool-discrete c.ended d.ended) (list_dec mark_dec c.marks d.marks)))
 
 -- ---- lists that take each configuration once
 abbrev pub in_dec : (c : Configuration) (l : List Configuration) → Dec (In c l)
@@ -211,11 +204,9 @@ module _ (lo hi : ℤ) (flow : Flow) where
   fed_targets (tests x y p m) c = []
   fed_targets (goes n) c = []
   fed_targets stops c = []
-  fed_targets (ticks t z n) c = []
-  fed_targets (limits z k p m) c = []
 
   abbrev pub step_targets : Configuration → List Configuration
-  step_targets c = configuration lo hi flow (step flow (trial lo hi flow c)) ∷ fed_targets (view_at flow c.next) c
+  step_targets c = configuration lo hi (step flow (trial lo hi flow c)) ∷ fed_targets (view_at flow c.next) c
 
   abbrev pub all_targets : List Configuration → List Configuration
   all_targets [] = []
@@ -230,7 +221,7 @@ module _ (lo hi : ℤ) (flow : Flow) where
   -- where the steps of a list lead that take no exit
   abbrev pub quiet_targets : List Configuration → List Configuration
   quiet_targets [] = []
-  quiet_targets (c ∷ l) = if_none (exit_of flow (trial lo hi flow c)) (configuration lo hi flow (step flow (trial lo hi flow c))) (quiet_targets l)
+  quiet_targets (c ∷ l) = if_none (exit_of flow (trial lo hi flow c)) (configuration lo hi (step flow (trial lo hi flow c))) (quiet_targets l)
 
   -- followed so many times
   abbrev pub quieted : ℕ → List Configuration → List Configuration
@@ -303,8 +294,6 @@ module _ (lo hi : ℤ) (flow : Flow) where
         go (tests x y p m) i k = absurd k
         go (goes n) i k = absurd k
         go stops i k = absurd k
-        go (ticks t z n) i k = absurd k
-        go (limits z b p m) i k = absurd k
 
     -- what fewer than n exits reach
     abbrev Near : ℕ → Configuration → Type 0
@@ -314,7 +303,7 @@ module _ (lo hi : ℤ) (flow : Flow) where
     quiet_near n (c ∷ k) near x h = go (exit_of flow (trial lo hi flow c)) refl h (quiet_near n k (λ y i. near y (inr i)) x)
       where
         next : Configuration
-        next = configuration lo hi flow (step flow (trial lo hi flow c))
+        next = configuration lo hi (step flow (trial lo hi flow c))
 
         go : (o : Option Exit) → exit_of flow (trial lo hi flow c) ≡ o → In x (if_none o next (quiet_targets k)) → (In x (quiet_targets k) → Near n x) → Near n x
         go none e (inl q) f =
@@ -361,12 +350,12 @@ module _ (lo hi : ℤ) (flow : Flow) where
 
         first : {o : Option Exit} {x : Configuration} → Edge lo hi flow c o x → weight o ≡ 0 → c ≡ d → In x (quiet_targets (d ∷ k))
         first still z q =
-            subst (λ (b : Configuration). In (configuration lo hi flow (step flow (trial lo hi flow c)))
-            (if_none (exit_of flow (trial lo hi flow b)) (configuration lo hi flow (step flow (trial lo hi flow b))) (quiet_targets k))) q
-            (head (exit_of flow (trial lo hi flow c)) (configuration lo hi flow (step flow (trial lo hi flow c))) z)
+            subst (λ (b : Configuration). In (configuration lo hi (step flow (trial lo hi flow c)))
+            (if_none (exit_of flow (trial lo hi flow b)) (configuration lo hi (step flow (trial lo hi flow b))) (quiet_targets k))) q
+            (head (exit_of flow (trial lo hi flow c)) (configuration lo hi (step flow (trial lo hi flow c))) z)
         first (fed a v p m y i open_still near) z q = absurd (omega arith)
     quiet_target (d ∷ k) {o} {c} {x} edge free (inr h) =
-        later (exit_of flow (trial lo hi flow d)) (configuration lo hi flow (step flow (trial lo hi flow d))) (quiet_target k edge free h)
+        later (exit_of flow (trial lo hi flow d)) (configuration lo hi (step flow (trial lo hi flow d))) (quiet_target k edge free h)
       where
         later : (p : Option Exit) (y : Configuration) → In x (quiet_targets k) → In x (if_none p y (quiet_targets k))
         later none y i = inr i
@@ -456,9 +445,7 @@ abbrev pub numbered : Flow → Field → Bool
 numbered flow (tape a) = ltb 0 a && leb a flow.tapes
 numbered flow (output y) = true
 numbered flow (variable v) = ltb 0 v && leb v flow.variables
-numbered flow (counter z) = ltb 0 z && leb z flow.counters
 numbered flow (target n) = true
-numbered flow (limit c) = true
 numbered flow (constant c) = true
 
 in_range_lem : (a n : ℕ) → T (ltb 0 a && leb a n) → (0 < a) × (a ≤ n)
@@ -468,9 +455,7 @@ numbered_in : (flow : Flow) (f : Field) → T (numbered flow f) → Numbered flo
 numbered_in flow (tape a) h = in_range_lem a flow.tapes h
 numbered_in flow (output y) h = tt
 numbered_in flow (variable v) h = in_range_lem v flow.variables h
-numbered_in flow (counter z) h = in_range_lem z flow.counters h
 numbered_in flow (target n) h = tt
-numbered_in flow (limit c) h = tt
 numbered_in flow (constant c) h = tt
 
 abbrev pub every : {A : Type 0} → (A → Bool) → List A → Bool

@@ -1,5 +1,4 @@
--- The census of flow A of document 01 and of two flows with counters, and the distances of these and of ten other small flows, computed: what the
--- definitions say of them.
+-- The census of flow A of document 01 and the distances of eight small flows, computed: what the definitions say of them.
 use mathlib.Core.Path.{◌≡◌, refl}
 use mathlib.Core.Bool.{cond}
 use mathlib.Core.List.{List, [], ◌∷◌}
@@ -7,11 +6,11 @@ use Prim.Native.Nat.{ℕ, suc}
 use lib.IntN.{pos, negsuc}
 use lib.ListN.{length}
 use lib.Dec.{eqb}
-use Rattle.model.specs.Language.{read, copy, less, over, under, nop, stop, reset, raise, fewer, Instruction, Flow, constants, all_constants, least, greatest, C1, C2, largest}
+use Rattle.model.specs.Language.{read, put, copy, less, over, under, nop, stop, Instruction, Flow, constants, all_constants, least, greatest, C1, C2}
 use Rattle.model.specs.Machine.{p_exit, m_exit}
 use Rattle.model.specs.Pattern.{above, below, among, different, mark, pattern}
 use Rattle.model.specs.Distance.{Distance, NoDistance}
-use Rattle.model.specs.Configuration.{Configuration, capped, Reachable}
+use Rattle.model.specs.Configuration.{Configuration, Reachable}
 use Rattle.model.proofs.Side.{place, spread}
 use Rattle.model.proofs.Computed.{ball, legal_tested, computed_census, computed_distance, computed_none}
 use Rattle.graph.specs.Lists.{Census}
@@ -22,10 +21,7 @@ unfolding pattern mark different among
 ranks = refl
 
 abbrev flow : (variables : ℕ) → List Instruction → Flow
-flow variables instructions = record { tapes = 1; outputs = 0; variables = variables; counters = 0; instructions = instructions }
-
-abbrev counting : List Instruction → Flow
-counting instructions = record { tapes = 1; outputs = 0; variables = 1; counters = 1; instructions = instructions }
+flow variables instructions = record { tapes = 1; outputs = 0; variables = variables; instructions = instructions }
 
 abbrev reached : Flow → ℕ → List Configuration
 reached f n = ball (C1 f) (C2 f) f n
@@ -40,15 +36,15 @@ abbrev A : Flow
 A = flow 1 (read 1 1 2 3 ∷ over (pos 5) 1 1 3 ∷ stop ∷ [])
 
 census_A : Census (Reachable (C1 A) (C2 A) A) (reached A 4)
-unfolding C1 C2 least greatest all_constants constants largest capped pattern mark different among spread place
+unfolding C1 C2 least greatest all_constants constants pattern mark different among spread place
 census_A = computed_census (C1 A) (C2 A) A (legal_tested A tt) 4 tt
 
 count_A : (length (reached A 4) ≡ 19) × (standing 1 (reached A 4) ≡ 2) × (standing 2 (reached A 4) ≡ 8) × (standing 3 (reached A 4) ≡ 9)
-unfolding C1 C2 least greatest all_constants constants largest capped pattern mark different among spread place
+unfolding C1 C2 least greatest all_constants constants pattern mark different among spread place
 count_A = (refl, refl, refl, refl)
 
 report_A : Distance A 1 p_exit 1 × Distance A 1 m_exit 1 × Distance A 2 p_exit 2 × Distance A 2 m_exit 2
-unfolding C1 C2 least greatest all_constants constants largest capped pattern mark different among spread place
+unfolding C1 C2 least greatest all_constants constants pattern mark different among spread place
 report_A =
     let by = computed_distance (C1 A) (C2 A) A (legal_tested A tt) in
     (by 1 p_exit 0 tt tt tt, by 1 m_exit 0 tt tt tt, by 2 p_exit 1 tt tt tt, by 2 m_exit 1 tt tt tt)
@@ -58,7 +54,7 @@ abbrev Twice : Flow
 Twice = flow 1 (read 1 1 3 2 ∷ read 1 1 3 3 ∷ stop ∷ [])
 
 report_Twice : NoDistance Twice 2 p_exit × Distance Twice 2 m_exit 2
-unfolding C1 C2 least greatest all_constants constants largest capped pattern mark different among spread place
+unfolding C1 C2 least greatest all_constants constants pattern mark different among spread place
 report_Twice =
     let l = legal_tested Twice tt in
     (computed_none (C1 Twice) (C2 Twice) Twice l 2 p_exit 3 tt tt, computed_distance (C1 Twice) (C2 Twice) Twice l 2 m_exit 1 tt tt tt)
@@ -68,7 +64,7 @@ abbrev Under : Flow
 Under = flow 1 (under 1 (pos 5) 2 2 ∷ stop ∷ [])
 
 report_Under : Distance Under 1 p_exit 1 × NoDistance Under 1 m_exit
-unfolding C1 C2 least greatest all_constants constants largest capped pattern mark different among spread place
+unfolding C1 C2 least greatest all_constants constants pattern mark different among spread place
 report_Under =
     let l = legal_tested Under tt in
     (computed_distance (C1 Under) (C2 Under) Under l 1 p_exit 0 tt tt tt, computed_none (C1 Under) (C2 Under) Under l 1 m_exit 2 tt tt)
@@ -78,7 +74,7 @@ abbrev Self : Flow
 Self = flow 1 (read 1 1 2 3 ∷ less 1 1 3 1 ∷ stop ∷ [])
 
 report_Self : NoDistance Self 2 p_exit × Distance Self 2 m_exit 2
-unfolding C1 C2 least greatest all_constants constants largest capped pattern mark different among spread place
+unfolding C1 C2 least greatest all_constants constants pattern mark different among spread place
 report_Self =
     let l = legal_tested Self tt in
     (computed_none (C1 Self) (C2 Self) Self l 2 p_exit 4 tt tt, computed_distance (C1 Self) (C2 Self) Self l 2 m_exit 1 tt tt tt)
@@ -88,7 +84,7 @@ abbrev Equal : Flow
 Equal = flow 2 (read 1 1 2 4 ∷ copy 1 2 3 ∷ less 1 2 4 4 ∷ stop ∷ [])
 
 report_Equal : NoDistance Equal 3 p_exit × Distance Equal 3 m_exit 2 × (standing 3 (reached Equal 4) ≡ 3)
-unfolding C1 C2 least greatest all_constants constants largest capped pattern mark different among spread place
+unfolding C1 C2 least greatest all_constants constants pattern mark different among spread place
 report_Equal =
     let l = legal_tested Equal tt in
     (computed_none (C1 Equal) (C2 Equal) Equal l 3 p_exit 4 tt tt, computed_distance (C1 Equal) (C2 Equal) Equal l 3 m_exit 1 tt tt tt, refl)
@@ -98,7 +94,7 @@ abbrev Chain : Flow
 Chain = flow 2 (read 1 1 2 6 ∷ read 1 2 3 6 ∷ over (pos 0) 1 4 6 ∷ less 1 2 5 6 ∷ under 2 (pos 2) 6 6 ∷ stop ∷ [])
 
 report_Chain : NoDistance Chain 5 p_exit × Distance Chain 5 m_exit 5
-unfolding C1 C2 least greatest all_constants constants largest capped pattern mark different among spread place
+unfolding C1 C2 least greatest all_constants constants pattern mark different among spread place
 report_Chain =
     let l = legal_tested Chain tt in
     (computed_none (C1 Chain) (C2 Chain) Chain l 5 p_exit 6 tt tt, computed_distance (C1 Chain) (C2 Chain) Chain l 5 m_exit 4 tt tt tt)
@@ -108,7 +104,7 @@ abbrev Late : Flow
 Late = flow 1 (nop 2 ∷ read 1 1 3 3 ∷ stop ∷ [])
 
 report_Late : Distance Late 2 p_exit 1 × Distance Late 2 m_exit 1
-unfolding C1 C2 least greatest all_constants constants largest capped pattern mark different among spread place
+unfolding C1 C2 least greatest all_constants constants pattern mark different among spread place
 report_Late =
     let by = computed_distance (C1 Late) (C2 Late) Late (legal_tested Late tt) in
     (by 2 p_exit 0 tt tt tt, by 2 m_exit 0 tt tt tt)
@@ -118,70 +114,7 @@ abbrev Around : Flow
 Around = flow 1 (read 1 1 2 5 ∷ nop 3 ∷ copy 1 1 4 ∷ nop 6 ∷ read 1 1 6 6 ∷ under 1 (pos 1) 7 7 ∷ nop 7 ∷ [])
 
 report_Around : Distance Around 5 m_exit 2 × Distance Around 6 p_exit 2
-unfolding C1 C2 least greatest all_constants constants largest capped pattern mark different among spread place
+unfolding C1 C2 least greatest all_constants constants pattern mark different among spread place
 report_Around =
     let by = computed_distance (C1 Around) (C2 Around) Around (legal_tested Around tt) in
     (by 5 m_exit 1 tt tt tt, by 6 p_exit 1 tt tt tt)
-
--- a counter that only rises (document 02, T-10): values from its largest c, 2, upward are taken as one, and 2 is no basic constant. At 1, 2 and 3
--- stand 7, 9 and 6 configurations, 7 at 4
-abbrev Rising : Flow
-Rising = counting (read 1 1 2 4 ∷ raise 1 3 ∷ fewer 1 2 1 1 ∷ stop ∷ [])
-
-census_Rising : Census (Reachable (C1 Rising) (C2 Rising) Rising) (reached Rising 9)
-unfolding C1 C2 least greatest all_constants constants largest capped pattern mark different among spread place
-census_Rising = computed_census (C1 Rising) (C2 Rising) Rising (legal_tested Rising tt) 9 tt
-
-count_Rising : (standing 1 (reached Rising 9) ≡ 7) × (standing 2 (reached Rising 9) ≡ 9) × (standing 3 (reached Rising 9) ≡ 6) × (standing 4 (reached Rising 9) ≡ 7)
-unfolding C1 C2 least greatest all_constants constants largest capped pattern mark different among spread place
-count_Rising = (refl, refl, refl, refl)
-
-report_Rising : Distance Rising 3 p_exit 2 × Distance Rising 3 m_exit 4
-unfolding C1 C2 least greatest all_constants constants largest capped pattern mark different among spread place
-report_Rising =
-    let by = computed_distance (C1 Rising) (C2 Rising) Rising (legal_tested Rising tt) in
-    (by 3 p_exit 1 tt tt tt, by 3 m_exit 3 tt tt tt)
-
--- no counter is below 0
-abbrev Never : Flow
-Never = counting (fewer 1 0 2 2 ∷ stop ∷ [])
-
-report_Never : NoDistance Never 1 p_exit × Distance Never 1 m_exit 1
-unfolding C1 C2 least greatest all_constants constants largest capped pattern mark different among spread place
-report_Never =
-    let l = legal_tested Never tt in
-    (computed_none (C1 Never) (C2 Never) Never l 1 p_exit 2 tt tt, computed_distance (C1 Never) (C2 Never) Never l 1 m_exit 0 tt tt tt)
-
--- a loop that is left when the counter reaches 2, and in which it is 0 again: instruction 4 is reached after two exits, its m never
-abbrev Again : Flow
-Again = counting (raise 1 2 ∷ fewer 1 2 1 3 ∷ reset 1 4 ∷ fewer 1 1 1 1 ∷ [])
-
-report_Again : Distance Again 2 m_exit 2 × Distance Again 4 p_exit 3 × NoDistance Again 4 m_exit
-unfolding C1 C2 least greatest all_constants constants largest capped pattern mark different among spread place
-report_Again =
-    let l = legal_tested Again tt in
-    let by = computed_distance (C1 Again) (C2 Again) Again l in
-    (by 2 m_exit 1 tt tt tt, by 4 p_exit 2 tt tt tt, computed_none (C1 Again) (C2 Again) Again l 4 m_exit 5 tt tt)
-
--- two counters: instruction 4 sets the second to 0 and leaves the first, and 7 and 8 raise both for ever. The first is told apart up to 2, the second up
--- to 3, by a line that no run reaches. At 7 stand 4 configurations, at 8 three
-abbrev Both : Flow
-Both =
-    let lines = raise 1 2 ∷ fewer 1 2 1 3 ∷ raise 2 4 ∷ reset 2 5 ∷ fewer 1 1 6 7 ∷ fewer 2 3 6 6 ∷ raise 2 8 ∷ raise 1 7 ∷ [] in
-    record { tapes = 1; outputs = 0; variables = 1; counters = 2; instructions = lines }
-
-census_Both : Census (Reachable (C1 Both) (C2 Both) Both) (reached Both 6)
-unfolding C1 C2 least greatest all_constants constants largest capped pattern mark different among spread place
-census_Both = computed_census (C1 Both) (C2 Both) Both (legal_tested Both tt) 6 tt
-
-count_Both : (length (reached Both 6) ≡ 14) × (standing 6 (reached Both 6) ≡ 0) × (standing 7 (reached Both 6) ≡ 4) × (standing 8 (reached Both 6) ≡ 3)
-unfolding C1 C2 least greatest all_constants constants largest capped pattern mark different among spread place
-count_Both = (refl, refl, refl, refl)
-
-report_Both : Distance Both 2 m_exit 2 × NoDistance Both 5 p_exit × Distance Both 5 m_exit 3 × NoDistance Both 6 p_exit
-unfolding C1 C2 least greatest all_constants constants largest capped pattern mark different among spread place
-report_Both =
-    let l = legal_tested Both tt in
-    let by = computed_distance (C1 Both) (C2 Both) Both l in
-    let never = computed_none (C1 Both) (C2 Both) Both l in
-    (by 2 m_exit 1 tt tt tt, never 5 p_exit 6 tt tt, by 5 m_exit 2 tt tt tt, never 6 p_exit 6 tt tt)

@@ -9,16 +9,16 @@ use native.Mathlib.Omega.{arith}
 use lib.IntN.{ℤ, pos}
 use lib.Signed.{lt_z}
 use lib.ListN.{length, get_or}
-use lib.Dec.{T, ltb}
+use lib.Dec.{T}
 use Rattle.model.specs.Language.{Flow}
 use Rattle.model.specs.Machine.{State, Exit, p_exit, m_exit, exit_if, has_record, step}
 use Rattle.model.specs.Configuration.{Configuration, configuration}
 use Rattle.model.proofs.Integers.{false_out}
 use Rattle.model.proofs.Lists.{get_d_like}
-use Rattle.model.proofs.View.{on_counter, exit_view, exit_view_lem}
+use Rattle.model.proofs.View.{exit_view, exit_view_lem}
 use Rattle.model.proofs.Side.{inside-near}
 use Rattle.model.proofs.Graph.{trial, fed_with, Edge, still, fed}
-use Rattle.model.specs.Inner.View.{View, reads, sets, tests, goes, stops, ticks, limits, view_at, term, LegalFlow}
+use Rattle.model.specs.Inner.View.{View, reads, sets, tests, goes, stops, view_at, term, LegalFlow}
 
 abbrev pub is_exit : Exit → Bool → Bool
 is_exit p_exit b = b
@@ -34,8 +34,6 @@ has_exit (sets t v n) s e = false
 has_exit (tests x y p m) s e = is_exit e (lt_z (term s.variables x) (term s.variables y))
 has_exit (goes n) s e = false
 has_exit stops s e = false
-has_exit (ticks t z n) s e = false
-has_exit (limits z c p m) s e = is_exit e (ltb (on_counter s z) c)
 
 exit_out : (e : Exit) (b : Bool) → T (is_exit e b) → some (exit_if b) ≡ some e
 exit_out p_exit true h = refl
@@ -76,7 +74,7 @@ module _ {lo hi : ℤ} {flow : Flow} (l : LegalFlow lo hi flow) (c : Configurati
       quiet : (w : View) → view_at flow c.next ≡ w → (e : Exit) → exit_view w t ≡ some e → (c' : Configuration) × Edge lo hi flow c (some e) c'
       quiet w i e x =
           let taken = exit_view_lem flow t ∙ ap (λ (u : View). exit_view u t) i ∙ x in
-          let c' = configuration lo hi flow (step flow t) in
+          let c' = configuration lo hi (step flow t) in
           (c', subst (λ (o : Option Exit). Edge lo hi flow c o c') taken still)
 
       go : (w : View) → view_at flow c.next ≡ w → (e : Exit) → T (has_exit w t e) → (c' : Configuration) × Edge lo hi flow c (some e) c'
@@ -88,8 +86,6 @@ module _ {lo hi : ℤ} {flow : Flow} (l : LegalFlow lo hi flow) (c : Configurati
       go (tests x y p m) i e h = quiet (tests x y p m) i e (exit_out e (lt_z (term t.variables x) (term t.variables y)) h)
       go (goes n) i e h = absurd h
       go stops i e h = absurd h
-      go (ticks t z n) i e h = absurd h
-      go (limits z k p m) i e h = quiet (limits z k p m) i e (exit_out e (ltb (on_counter t z) k) h)
 
   edge-takes : {o : Option Exit} {c' : Configuration} → Edge lo hi flow c o c' → (e : Exit) → o ≡ some e → T (takes_exit lo hi flow c e)
   edge-takes still e x = go (view_at flow c.next) (sym (exit_view_lem flow t) ∙ x)
@@ -103,8 +99,6 @@ module _ {lo hi : ℤ} {flow : Flow} (l : LegalFlow lo hi flow) (c : Configurati
       go (tests x y p m) q = exit_in e (lt_z (term t.variables x) (term t.variables y)) q
       go (goes n) q = none_in e q
       go stops q = none_in e q
-      go (ticks t z n) q = none_in e q
-      go (limits z k p m) q = exit_in e (ltb (on_counter t z) k) q
   edge-takes (fed a v p m y i o near) e x = rw (i, o) (open_read e)
 
   pub edge-exit : {e : Exit} {c' : Configuration} → Edge lo hi flow c (some e) c' → T (takes_exit lo hi flow c e)

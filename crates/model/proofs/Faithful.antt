@@ -15,14 +15,14 @@ use Rattle.model.proofs.Lists.{get_d_map, set-map, map_replicate}
 use Rattle.model.proofs.View.{on_tape, taken, step_view, exit_view, exit_view_lem, Known, SoundTerm, SoundView, sound, known}
 use Rattle.model.proofs.Runs.{run_end, exits-end}
 use Rattle.model.specs.Inner.Integers.{Inside}
-use Rattle.model.specs.Inner.View.{Term, held, literal, View, reads, sets, tests, goes, stops, ticks, limits, view_at, term, LegalFlow}
+use Rattle.model.specs.Inner.View.{Term, held, literal, View, reads, sets, tests, goes, stops, view_at, term, LegalFlow}
 
 pub record Faithful (lo hi : ℤ) (f : ℤ → ℤ) : Type 0 where
   pub keeps : (x y : ℤ) → lt_z (f x) (f y) ≡ lt_z x y
   pub fixes : (c : ℤ) → Inside lo hi c → f c ≡ c
 
 abbrev pub map_state : (ℤ → ℤ) → State → State
-map_state f s = record { next = s.next; variables = map f s.variables; left = map (map f) s.left; ended = s.ended; counters = s.counters }
+map_state f s = record { next = s.next; variables = map f s.variables; left = map (map f) s.left; ended = s.ended }
 
 pub term-map : (lo hi : ℤ) (f : ℤ → ℤ) → Inside lo hi (pos 0) → Faithful lo hi f → (l : List ℤ) (t : Term) → Known lo hi t
     → term (map f l) t ≡ f (term l t)
@@ -43,11 +43,9 @@ module _ {lo hi : ℤ} {flow : Flow} (l : LegalFlow lo hi flow) (f : ℤ → ℤ
   step_map (tests x y p m) h s = rw (sound-map s.variables x h.0, sound-map s.variables y h.1, k.keeps)
   step_map (goes n) h s = refl
   step_map stops h s = refl
-  step_map (ticks t z n) h s = refl
-  step_map (limits z c p m) h s = refl
 
   pub run-map : (tapes : List (List ℤ)) (n : ℕ) → run flow (map (map f) tapes) n ≡ map_state f (run flow tapes n)
-  run-map tapes zero = ap (λ (v : List ℤ). record { next = 1; variables = v; left = map (map f) tapes; ended = (start flow tapes).ended; counters = (start flow tapes).counters })
+  run-map tapes zero = ap (λ (v : List ℤ). record { next = 1; variables = v; left = map (map f) tapes; ended = (start flow tapes).ended })
       (sym (map_replicate f flow.variables (pos 0) (pos 0) (k.fixes (pos 0) l.zero)))
   run-map tapes (suc n) =
       let s = run flow tapes n in
@@ -65,8 +63,6 @@ module _ {lo hi : ℤ} {flow : Flow} (l : LegalFlow lo hi flow) (f : ℤ → ℤ
   exit-map (tests x y p m) h s = rw (sound-map s.variables x h.0, sound-map s.variables y h.1, k.keeps)
   exit-map (goes n) h s = refl
   exit-map stops h s = refl
-  exit-map (ticks t z n) h s = refl
-  exit-map (limits z c p m) h s = refl
 
   pub exits-map : (tapes : List (List ℤ)) (n : ℕ) → exits_taken flow (map (map f) tapes) n ≡ exits_taken flow tapes n
   exits-map tapes zero = refl

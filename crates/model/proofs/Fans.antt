@@ -1,7 +1,7 @@
 -- The edges of a read: m marks the tape as ended; p leads, with each trial record, to a configuration of the read's *fan*. Configurations that differ
 -- in the variable that is read alone, or in where they stand, have one fan if they read into the same variable and go to the same instruction.
 use mathlib.Core.Path.{◌≡◌, refl, sym, ap, ap₂, ◌∙◌, subst}
-use mathlib.Core.Bool.{true, false}
+use mathlib.Core.Bool.{Bool, true, false}
 use mathlib.Core.List.{List, []}
 use mathlib.Core.Logic.{◌⊎◌, inl, inr}
 use mathlib.Core.Option.{Option, some}
@@ -31,7 +31,7 @@ pub record ByP (lo hi : ℤ) (c c' : Configuration) (o : Option Exit) (a v p : �
 
 pub record ByM (lo hi : ℤ) (flow : Flow) (c c' : Configuration) (o : Option Exit) (a m : ℕ) : Type 0 where
   pub exit : o ≡ some m_exit
-  pub goes : configuration lo hi flow (step flow (trial lo hi flow c)) ≡ c'
+  pub goes : configuration lo hi (step flow (trial lo hi flow c)) ≡ c'
   pub next : c'.next ≡ m
   pub ended : c'.ended ≡ set c.ended a true
 
@@ -48,7 +48,7 @@ module _ {lo hi : ℤ} {flow : Flow} where
       t : State
       t = trial lo hi flow c
 
-      after : step flow t ≡ record { next = m; variables = t.variables; left = t.left; ended = set t.ended a true; counters = t.counters }
+      after : step flow t ≡ record { next = m; variables = t.variables; left = t.left; ended = set t.ended a true }
       after = step-view flow t ∙ ap (λ (w : View). step_view w t) i ∙ rw (get_d_like {A = List ℤ} flow.tapes a []) refl
   read_edges {c = c} (fed b w q n y j o near) a v p m i =
       let k : reads a v p m ≡ reads b w q n = sym i ∙ j in
@@ -75,12 +75,12 @@ module _ {lo hi : ℤ} {flow : Flow} (l : LegalFlow lo hi flow) where
       let own = subst (λ (n : ℕ). Spaced l.zero n (spread lo hi w)) (sym (length-pattern l.zero q.values)) (spaced_spread l.zero q.values) in
       subst (λ (m : List Mark). Spaced l.zero (length m) (spread lo hi m)) q.marks own
 
-  -- c and d read into v and go on to p, with the same tapes ended, the same counters and, v set to 0, the same pattern: every p of c leads where a p of d leads
+  -- c and d read into v and go on to p, with the same tapes ended and, v set to 0, the same pattern: every p of c leads where a p of d leads
   pub fan_edge : (c d c' : Configuration) (a b v p m n : ℕ) → view_at flow c.next ≡ reads a v p m → view_at flow d.next ≡ reads b v p n
-      → c.ended ≡ d.ended → c.counters ≡ d.counters
+      → c.ended ≡ d.ended
       → pattern lo hi (set (spread lo hi c.marks) v (pos 0)) ≡ pattern lo hi (set (spread lo hi d.marks) v (pos 0))
       → Proper lo hi d → get_or d.ended b false ≡ false → Edge lo hi flow c (some p_exit) c' → Edge lo hi flow d (some p_exit) c'
-  fan_edge c d c' a b v p m n i j ends counts e q o x = go (read_edges x a v p m i)
+  fan_edge c d c' a b v p m n i j ends e q o x = go (read_edges x a v p m i)
     where
       sv : List ℤ
       sv = spread lo hi d.marks
@@ -90,6 +90,5 @@ module _ {lo hi : ℤ} {flow : Flow} (l : LegalFlow lo hi flow) where
       go (inl f) =
           let (y, near, same) = fan l.zero (spread lo hi c.marks) sv v (length d.marks) (pos 0) e
           (spaced_set l.zero (length d.marks) sv v (pos 0) l.zero (proper_spaced d q)) f.y in
-          let goes : fed_with lo hi v p y d ≡ c'
-          = (λ r. record { next = p; ended = sym ends r; marks = sym same r; counters = sym counts r }) ∙ f.goes in
+          let goes = ap₂ (λ (t : List Bool) (k : List Mark). record { next = p; ended = t; marks = k }) (sym ends) (sym same) ∙ f.goes in
           subst (Edge lo hi flow d (some p_exit)) goes (fed b v p n y j o near)

@@ -21,7 +21,7 @@ use Rattle.model.proofs.Side.{near-wider, inside-near}
 use Rattle.model.proofs.Room.{near-term}
 use Rattle.model.proofs.Runs.{steps-end, append, more, run_more, exits-more}
 use Rattle.model.specs.Inner.Lists.{All}
-use Rattle.model.specs.Inner.View.{View, reads, sets, tests, goes, stops, ticks, limits, view_at, term, LegalFlow}
+use Rattle.model.specs.Inner.View.{View, reads, sets, tests, goes, stops, view_at, term, LegalFlow}
 use Rattle.model.specs.Inner.Runs.{resting, records, RunStands}
 
 records-append : (ts : List (List ℤ)) (a : ℕ) (x : ℤ) → a < length ts → records (append ts a x) ≡ suc (records ts)
@@ -37,18 +37,15 @@ records-none : (n : ℕ) → records (replicate n []) ≡ 0
 records-none zero = refl
 records-none (suc n) = omega (arith, records-none n)
 
-step_left : (flow : Flow) (w : View) (k : ℕ) (v : List ℤ) (e : List Bool) (z : List ℕ) → (step_view w (resting flow k v e z)).left ≡ replicate flow.tapes []
-step_left flow (reads a u p m) k v e z = rw (get_d_like {A = List ℤ} flow.tapes a []) refl
-step_left flow (sets t u n) k v e z = refl
-step_left flow (tests x y p m) k v e z = refl
-step_left flow (goes n) k v e z = refl
-step_left flow stops k v e z = refl
-step_left flow (ticks t y n) k v e z = refl
-step_left flow (limits y c p m) k v e z = refl
+step_left : (flow : Flow) (w : View) (k : ℕ) (v : List ℤ) (e : List Bool) → (step_view w (resting flow k v e)).left ≡ replicate flow.tapes []
+step_left flow (reads a u p m) k v e = rw (get_d_like {A = List ℤ} flow.tapes a []) refl
+step_left flow (sets t u n) k v e = refl
+step_left flow (tests x y p m) k v e = refl
+step_left flow (goes n) k v e = refl
+step_left flow stops k v e = refl
 
 module _ {lo hi : ℤ} {flow : Flow} (l : LegalFlow lo hi flow) where
   pub stands-start : RunStands lo hi flow 0 0 0 (replicate flow.tapes []) 1 (replicate flow.variables (pos 0)) (replicate flow.tapes false)
-      (replicate flow.counters 0)
   stands-start = record {
     count = length-replicate {A = List ℤ} flow.tapes [];
     is = refl;
@@ -59,39 +56,37 @@ module _ {lo hi : ℤ} {flow : Flow} (l : LegalFlow lo hi flow) where
     few = omega arith;
   }
 
-  near_step : (r : ℕ) (w : View) → SoundView lo hi flow w → (k : ℕ) (v : List ℤ) (e : List Bool) (z : List ℕ) → All (Near lo hi r) v
-      → All (Near lo hi r) (step_view w (resting flow k v e z)).variables
-  near_step r (reads a u p m) h k v e z n = rw (get_d_like {A = List ℤ} flow.tapes a []) n
-  near_step r (sets t u m) h k v e z n = all_set (Near lo hi r) v u (term v t) n (near-term l.zero r v n t (known lo hi flow t h.0))
-  near_step r (tests x y p m) h k v e z n = n
-  near_step r (goes m) h k v e z n = n
-  near_step r stops h k v e z n = n
-  near_step r (ticks t y m) h k v e z n = n
-  near_step r (limits y c p m) h k v e z n = n
+  near_step : (r : ℕ) (w : View) → SoundView lo hi flow w → (k : ℕ) (v : List ℤ) (e : List Bool) → All (Near lo hi r) v
+      → All (Near lo hi r) (step_view w (resting flow k v e)).variables
+  near_step r (reads a u p m) h k v e n = rw (get_d_like {A = List ℤ} flow.tapes a []) n
+  near_step r (sets t u m) h k v e n = all_set (Near lo hi r) v u (term v t) n (near-term l.zero r v n t (known lo hi flow t h.0))
+  near_step r (tests x y p m) h k v e n = n
+  near_step r (goes m) h k v e n = n
+  near_step r stops h k v e n = n
 
-  module _ {n d r : ℕ} {tapes : List (List ℤ)} {k : ℕ} {v : List ℤ} {e : List Bool} {z : List ℕ} (s : RunStands lo hi flow n d r tapes k v e z) where
+  module _ {n d r : ℕ} {tapes : List (List ℤ)} {k : ℕ} {v : List ℤ} {e : List Bool} (s : RunStands lo hi flow n d r tapes k v e) where
     -- a step that reads no record
     abbrev pub rested_after : State
-    rested_after = step flow (resting flow k v e z)
+    rested_after = step flow (resting flow k v e)
 
-    pub stands_silent : RunStands lo hi flow (suc n) (d + weight (exit_of flow (resting flow k v e z))) r tapes
-        rested_after.next rested_after.variables rested_after.ended rested_after.counters
+    pub stands_silent : RunStands lo hi flow (suc n) (d + weight (exit_of flow (resting flow k v e))) r tapes
+        rested_after.next rested_after.variables rested_after.ended
     stands_silent = record {
       count = s.count;
       is = steps-end flow n (start flow tapes) ∙ ap (step flow) s.is
-          ∙ ap (λ (q : List (List ℤ)). record { next = rested_after.next; variables = rested_after.variables; left = q; ended = rested_after.ended; counters = rested_after.counters }) emptied;
+          ∙ ap (λ (q : List (List ℤ)). record { next = rested_after.next; variables = rested_after.variables; left = q; ended = rested_after.ended }) emptied;
       near = s.near;
-      values_near = subst (λ (t : State). All (Near lo hi r) t.variables) (sym (step-view flow (resting flow k v e z)))
-          (near_step r (view_at flow k) (sound l k) k v e z s.values_near);
+      values_near = subst (λ (t : State). All (Near lo hi r) t.variables) (sym (step-view flow (resting flow k v e)))
+          (near_step r (view_at flow k) (sound l k) k v e s.values_near);
       total = s.total;
       exits = ap₂ (λ (j : ℕ) (o : Option Exit). j + weight o) s.exits (ap (exit_of flow) s.is);
       few = omega (arith, s.few);
     }
       where
         emptied : rested_after.left ≡ replicate flow.tapes []
-        emptied = ap (λ (t : State). t.left) (step-view flow (resting flow k v e z)) ∙ step_left flow (view_at flow k) k v e z
+        emptied = ap (λ (t : State). t.left) (step-view flow (resting flow k v e)) ∙ step_left flow (view_at flow k) k v e
 
-    pub takes_silent : (x : Exit) → exit_of flow (resting flow k v e z) ≡ some x → StepTakes flow tapes k x (suc n)
+    pub takes_silent : (x : Exit) → exit_of flow (resting flow k v e) ≡ some x → StepTakes flow tapes k x (suc n)
     takes_silent x h = record { before = n; last = refl; here = ap (λ (t : State). t.next) s.is; exit = ap (exit_of flow) s.is ∙ h }
 
     -- a step that reads a record
@@ -100,7 +95,7 @@ module _ {lo hi : ℤ} {flow : Flow} (l : LegalFlow lo hi flow) where
       base = map (map f) tapes
 
       abbrev offer : State
-      offer = more a x (resting flow k (map f v) e z)
+      offer = more a x (resting flow k (map f v) e)
 
       lane : a < flow.tapes
       lane = (subst (SoundView lo hi flow) i (sound l k)).0
@@ -108,9 +103,9 @@ module _ {lo hi : ℤ} {flow : Flow} (l : LegalFlow lo hi flow) where
       base_count : length base ≡ flow.tapes
       base_count = length-map tapes (map f) ∙ s.count
 
-      mapped : run flow base n ≡ resting flow k (map f v) e z
+      mapped : run flow base n ≡ resting flow k (map f v) e
       mapped = run-map l f faithful tapes n ∙ ap (map_state f) s.is
-          ∙ ap (λ (q : List (List ℤ)). record { next = k; variables = map f v; left = q; ended = e; counters = z }) (map_replicate (map f) flow.tapes [] [] refl)
+          ∙ ap (λ (q : List (List ℤ)). record { next = k; variables = map f v; left = q; ended = e }) (map_replicate (map f) flow.tapes [] [] refl)
 
       open_yet : get_or (run flow base n).ended a false ≡ false
       open_yet = ap (λ (t : State). get_or t.ended a false) mapped ∙ o
@@ -125,9 +120,9 @@ module _ {lo hi : ℤ} {flow : Flow} (l : LegalFlow lo hi flow) where
       offered = get_or-set_same (replicate flow.tapes []) a (empty ++ (x ∷ [])) [] (omega (arith, length-replicate {A = List ℤ} flow.tapes [], lane))
           ∙ ap (λ (t : List ℤ). t ++ (x ∷ [])) (get_d_like flow.tapes a [])
 
-      fed_step : step flow offer ≡ resting flow p (set (map f v) u x) e z
+      fed_step : step flow offer ≡ resting flow p (set (map f v) u x) e
       fed_step = step-view flow offer ∙ ap (λ (w : View). step_view w offer) i
-          ∙ rw offered (ap (λ (q : List (List ℤ)). record { next = p; variables = set (map f v) u x; left = q; ended = e; counters = z })
+          ∙ rw offered (ap (λ (q : List (List ℤ)). record { next = p; variables = set (map f v) u x; left = q; ended = e })
           (set-set (replicate flow.tapes []) a (empty ++ (x ∷ [])) [] ∙ set_like flow.tapes a []))
 
       fed_exit : exit_of flow (run flow (append base a x) n) ≡ some p_exit
@@ -146,7 +141,7 @@ module _ {lo hi : ℤ} {flow : Flow} (l : LegalFlow lo hi flow) where
       }
 
       pub stands_fed : ((q : ℕ) (y : ℤ) → Near lo hi q y → Near lo hi (suc q) (f y)) → Near lo hi (suc r) x
-          → RunStands lo hi flow (suc n) (d + 1) (suc r) (append (map (map f) tapes) a x) p (set (map f v) u x) e z
+          → RunStands lo hi flow (suc n) (d + 1) (suc r) (append (map (map f) tapes) a x) p (set (map f v) u x) e
       stands_fed fnear xnear = record {
         count = length-set base a (get_or base a [] ++ (x ∷ [])) ∙ base_count;
         is = steps-end flow n (start flow (append base a x)) ∙ ap (step flow) fed_run ∙ fed_step;

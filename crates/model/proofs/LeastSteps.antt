@@ -3,8 +3,8 @@
 -- run counts steps).
 use mathlib.Core.Path.{◌≡◌, refl, sym, ap, ◌∙◌, subst}
 use mathlib.Core.List.{List}
-use mathlib.Core.Option.{Option}
-use Prim.Native.Nat.{ℕ, zero, suc, ◌+◌, ◌≤◌}
+use mathlib.Core.Option.{Option, some}
+use Prim.Native.Nat.{ℕ, zero, suc, ◌+◌, ◌<◌, ◌≤◌}
 use native.Mathlib.Omega.{arith}
 use lib.IntN.{ℤ}
 use lib.ListN.{length}
@@ -34,7 +34,7 @@ module _ {lo hi : ℤ} {flow : Flow} (l : LegalFlow lo hi flow) where
   module _ (tapes : List (List ℤ)) (count : length tapes ≡ flow.tapes) where
     -- the configurations of a run, and the exits of its steps
     abbrev at : ℕ → Configuration
-    at n = configuration lo hi flow (run flow tapes n)
+    at n = configuration lo hi (run flow tapes n)
 
     abbrev taken : ℕ → Option Exit
     taken n = exit_of flow (run flow tapes n)
@@ -42,7 +42,7 @@ module _ {lo hi : ℤ} {flow : Flow} (l : LegalFlow lo hi flow) where
     run_way : (n : ℕ) → Way (configurations lo hi flow) at taken n
     run_way n = record {
       starts = refl;
-      edge = λ t h. subst (λ (s : State). Edge lo hi flow (at t) (taken t) (configuration lo hi flow s)) (sym (steps-end flow t (start flow tapes)))
+      edge = λ t h. subst (λ (s : State). Edge lo hi flow (at t) (taken t) (configuration lo hi s)) (sym (steps-end flow t (start flow tapes)))
           (simulate l (run flow tapes t) (fair_run flow tapes count t));
     }
 

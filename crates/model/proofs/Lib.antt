@@ -1,6 +1,5 @@
 pub mod Integers
 pub mod Lists
-pub mod Counters
 pub mod View
 pub mod Runs
 pub mod Faithful

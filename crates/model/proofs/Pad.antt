@@ -11,9 +11,9 @@ use lib.Signed.{lt_z}
 use lib.ListN.{length, get_or, set, replicate, take, drop}
 use lib.ListN.{length-append, length-replicate, take-append-drop, replicate-append-replicate, get_or-append}
 use lib.Seq.{set-append_left, take_at, drop_at, length-take-le}
-use Rattle.model.specs.Language.{Flow, instruction, Field, tape, output, variable, counter, target, limit, constant, fields}
+use Rattle.model.specs.Language.{Flow, instruction, Field, tape, output, variable, target, constant, fields}
 use Rattle.model.specs.Machine.{State, Exit, exit_if, has_record, exit_of, run}
-use Rattle.model.specs.Distance.{weight, exits_taken, Takes, Distance, NoDistance}
+use Rattle.model.specs.Distance.{weight, exits_taken, StepTakes, Takes, Distance, NoDistance}
 use Rattle.model.specs.Pattern.{Mark, inside, equal, among, different, mark, pattern}
 use Rattle.graph.specs.Lists.{In, Census}
 use Rattle.graph.proofs.Counting.{census-map}
@@ -26,7 +26,7 @@ use Rattle.model.proofs.Side.{mark-inside}
 use Rattle.model.proofs.Ranks.{equal_in, length-pattern}
 use Rattle.model.proofs.Runs.{run_end, Fair, fair_run}
 use Rattle.model.specs.Inner.Integers.{Inside}
-use Rattle.model.specs.Inner.View.{Term, held, literal, View, reads, sets, tests, goes, stops, ticks, limits, view_at, term, Numbered, LegalFlow}
+use Rattle.model.specs.Inner.View.{Term, held, literal, View, reads, sets, tests, goes, stops, view_at, term, Numbered, LegalFlow}
 use Rattle.model.specs.Inner.Runs.{wider}
 
 -- ---- zeros beside the values change no rank
@@ -87,7 +87,7 @@ module _ {lo hi : ℤ} {flow : Flow} (l : LegalFlow lo hi flow) (nt nv : ℕ) (m
   unmet = replicate (nt - flow.tapes) false
 
   abbrev pad : List (List ℤ) → State → State
-  pad ex s = record { next = s.next; variables = s.variables ++ zeros; left = s.left ++ ex; ended = s.ended ++ unmet; counters = s.counters }
+  pad ex s = record { next = s.next; variables = s.variables ++ zeros; left = s.left ++ ex; ended = s.ended ++ unmet }
 
   abbrev wide : Flow
   wide = wider nt nv flow
@@ -99,9 +99,7 @@ module _ {lo hi : ℤ} {flow : Flow} (l : LegalFlow lo hi flow) (nt nv : ℕ) (m
   numbered_wider (tape a) (low, high) = (low, omega arith)
   numbered_wider (output y) h = tt
   numbered_wider (variable v) (low, high) = (low, omega arith)
-  numbered_wider (counter z) h = h
   numbered_wider (target n) h = tt
-  numbered_wider (limit c) h = tt
   numbered_wider (constant c) h = tt
 
   pub legal-wider : LegalFlow lo hi (wider nt nv flow)
@@ -132,8 +130,6 @@ module _ {lo hi : ℤ} {flow : Flow} (l : LegalFlow lo hi flow) (nt nv : ℕ) (m
   step_pad ex (tests x y p m) h s k = rw (term_pad x h.0 s k, term_pad y h.1 s k)
   step_pad ex (goes n) h s k = refl
   step_pad ex stops h s k = refl
-  step_pad ex (ticks t z n) h s k = refl
-  step_pad ex (limits z c p m) h s k = refl
 
   exit_pad : (ex : List (List ℤ)) (w : View) → SoundView lo hi flow w → (s : State) → Fair flow s → exit_view w (pad ex s) ≡ exit_view w s
   exit_pad ex (reads a v p m) h s k = ap (λ (q : List ℤ). some (exit_if (has_record q))) (tape_pad ex a h.0 s k)
@@ -141,11 +137,9 @@ module _ {lo hi : ℤ} {flow : Flow} (l : LegalFlow lo hi flow) (nt nv : ℕ) (m
   exit_pad ex (tests x y p m) h s k = rw (term_pad x h.0 s k, term_pad y h.1 s k)
   exit_pad ex (goes n) h s k = refl
   exit_pad ex stops h s k = refl
-  exit_pad ex (ticks t z n) h s k = refl
-  exit_pad ex (limits z c p m) h s k = refl
 
   run_pad : (tapes ex : List (List ℤ)) → length tapes ≡ flow.tapes → (n : ℕ) → run wide (tapes ++ ex) n ≡ pad ex (run flow tapes n)
-  run_pad tapes ex c zero = ap₂ (λ (v : List ℤ) (e : List Bool). record { next = 1; variables = v; left = tapes ++ ex; ended = e; counters = replicate flow.counters 0 })
+  run_pad tapes ex c zero = ap₂ (λ (v : List ℤ) (e : List Bool). record { next = 1; variables = v; left = tapes ++ ex; ended = e })
       (filled flow.variables nv (pos 0) more-values) (filled flow.tapes nt false more-tapes)
   run_pad tapes ex c (suc n) =
       let s = run flow tapes n in
@@ -276,20 +270,20 @@ module _ {lo hi : ℤ} {flow : Flow} (l : LegalFlow lo hi flow) (nt nv : ℕ) (m
 
   -- ---- and so is the number of configurations
   abbrev pub widen : Configuration → Configuration
-  widen c = record { next = c.next; ended = c.ended ++ unmet; marks = c.marks ++ replicate (nv - flow.variables) (inside (pos 0)); counters = c.counters }
+  widen c = record { next = c.next; ended = c.ended ++ unmet; marks = c.marks ++ replicate (nv - flow.variables) (inside (pos 0)) }
 
   abbrev pub narrow : Configuration → Configuration
-  narrow c = record { next = c.next; ended = take flow.tapes c.ended; marks = take flow.variables c.marks; counters = c.counters }
+  narrow c = record { next = c.next; ended = take flow.tapes c.ended; marks = take flow.variables c.marks }
 
-  configuration_pad : (ex : List (List ℤ)) (s : State) → configuration lo hi wide (pad ex s) ≡ widen (configuration lo hi flow s)
+  configuration_pad : (ex : List (List ℤ)) (s : State) → configuration lo hi (pad ex s) ≡ widen (configuration lo hi s)
   configuration_pad ex s =
-      ap (λ (m : List Mark). record { next = s.next; ended = s.ended ++ unmet; marks = m; counters = (configuration lo hi flow s).counters }) (pattern_pad l.zero s.variables (nv - flow.variables))
+      ap (λ (m : List Mark). record { next = s.next; ended = s.ended ++ unmet; marks = m }) (pattern_pad l.zero s.variables (nv - flow.variables))
 
   -- a reachable configuration has T ends and V marks
   narrow_widen : (c : Configuration) → Reachable lo hi flow c → narrow (widen c) ≡ c
   narrow_widen c r =
       let k = fair_run flow r.tapes r.count r.n in
-      ap₂ (λ (e : List Bool) (m : List Mark). record { next = c.next; ended = e; marks = m; counters = c.counters })
+      ap₂ (λ (e : List Bool) (m : List Mark). record { next = c.next; ended = e; marks = m })
       (take_at c.ended unmet flow.tapes (ap (λ (d : Configuration). length d.ended) (sym r.arrives) ∙ k.ends-count))
       (take_at c.marks (replicate (nv - flow.variables) (inside (pos 0))) flow.variables
       (ap (λ (d : Configuration). length d.marks) (sym r.arrives)
@@ -300,7 +294,7 @@ module _ {lo hi : ℤ} {flow : Flow} (l : LegalFlow lo hi flow) (nt nv : ℕ) (m
     tapes = r.tapes ++ unread;
     count = widened r.tapes r.count;
     n = r.n;
-    arrives = ap (configuration lo hi wide) (run_pad r.tapes unread r.count r.n) ∙ configuration_pad unread (run flow r.tapes r.n)
+    arrives = ap (configuration lo hi) (run_pad r.tapes unread r.count r.n) ∙ configuration_pad unread (run flow r.tapes r.n)
         ∙ ap widen r.arrives;
   }
 
@@ -311,10 +305,10 @@ module _ {lo hi : ℤ} {flow : Flow} (l : LegalFlow lo hi flow) (nt nv : ℕ) (m
       let rest = drop flow.tapes r.tapes in
       let s = run flow few r.n in
       let h = narrowed r.tapes r.count in
-      let x : Reachable lo hi flow (configuration lo hi flow s) = record { tapes = few; count = h; n = r.n; arrives = refl } in
-      let e : widen (configuration lo hi flow s) ≡ c
-      = sym (configuration_pad rest s) ∙ ap (configuration lo hi wide) (sym (run_pad few rest h r.n) ∙ split r.tapes r.n) ∙ r.arrives in
-      let f : configuration lo hi flow s ≡ narrow c = sym (narrow_widen (configuration lo hi flow s) x) ∙ ap narrow e in
+      let x : Reachable lo hi flow (configuration lo hi s) = record { tapes = few; count = h; n = r.n; arrives = refl } in
+      let e : widen (configuration lo hi s) ≡ c
+      = sym (configuration_pad rest s) ∙ ap (configuration lo hi) (sym (run_pad few rest h r.n) ∙ split r.tapes r.n) ∙ r.arrives in
+      let f : configuration lo hi s ≡ narrow c = sym (narrow_widen (configuration lo hi s) x) ∙ ap narrow e in
       (subst (Reachable lo hi flow) f x, ap widen (sym f) ∙ e)
 
   pub census_narrow : (list : List Configuration) → Census (Reachable lo hi (wider nt nv flow)) list → Census (Reachable lo hi flow) (map narrow list)

@@ -1,7 +1,7 @@
 -- Every path of the graph is a run on some tapes. The run stands where the path stands, its values having the path's pattern. At an edge that reads
 -- no record the run makes the same step. At one that reads a record, let w be any valuation of the next pattern, the *wish*: apart from
 -- the lane that is read, w and the values are alike, so there is room for a record that does to the values what w has in that lane.
-use mathlib.Core.Path.{◌≡◌, refl, sym, ap, ap₂, ◌∙◌, subst, subst₂}
+use mathlib.Core.Path.{◌≡◌, refl, sym, ap, ◌∙◌, subst, subst₂}
 use mathlib.Core.Bool.{false}
 use mathlib.Core.List.{List, [], map}
 use mathlib.Core.Option.{Option, some}
@@ -46,37 +46,35 @@ module _ {lo hi : ℤ} (z : Inside lo hi (pos 0)) (u : ℕ) where
 
 module _ {lo hi : ℤ} {flow : Flow} (l : LegalFlow lo hi flow) where
   pub follows-start : Follows lo hi flow 0 0 0 (replicate flow.tapes []) (replicate flow.variables (pos 0)) (origin lo hi flow)
-  follows-start = record { counters = replicate flow.counters 0; stands = stands-start l; marks = refl; counted = refl }
+  follows-start = record { stands = stands-start l; marks = refl }
 
   module _ {n d r : ℕ} {tapes : List (List ℤ)} {v : List ℤ} {c : Configuration} (q : Follows lo hi flow n d r tapes v c) where
     abbrev pub here : State
-    here = resting flow c.next v c.ended q.counters
+    here = resting flow c.next v c.ended
 
     abbrev pub follows_after : State
     follows_after = step flow here
 
-    same : configuration lo hi flow here ≡ c
-    same = ap₂ (λ (m : List Mark) (z : List ℕ). record { next = c.next; ended = c.ended; marks = m; counters = z }) q.marks q.counted
+    same : configuration lo hi here ≡ c
+    same = ap (λ (m : List Mark). record { next = c.next; ended = c.ended; marks = m }) q.marks
 
     -- an edge that reads no record: the tapes stay, the values are those of the run's own step
-    silent : (exit_of flow (trial lo hi flow (configuration lo hi flow here)) ≡ exit_of flow here)
-        × (configuration lo hi flow (step flow (trial lo hi flow (configuration lo hi flow here))) ≡ configuration lo hi flow follows_after)
-    silent = silent_step l here (silent_resting flow (view_at flow c.next) c.next v c.ended q.counters)
+    silent : (exit_of flow (trial lo hi flow (configuration lo hi here)) ≡ exit_of flow here)
+        × (configuration lo hi (step flow (trial lo hi flow (configuration lo hi here))) ≡ configuration lo hi follows_after)
+    silent = silent_step l here (silent_resting flow (view_at flow c.next) c.next v c.ended)
 
     taken : exit_of flow here ≡ exit_of flow (trial lo hi flow c)
     taken = sym silent.0 ∙ ap (λ (b : Configuration). exit_of flow (trial lo hi flow b)) same
 
     pub follows_still : Follows lo hi flow (suc n) (d + weight (exit_of flow (trial lo hi flow c))) r tapes follows_after.variables
-        (configuration lo hi flow (step flow (trial lo hi flow c)))
+        (configuration lo hi (step flow (trial lo hi flow c)))
     follows_still =
-        let goes : configuration lo hi flow follows_after ≡ configuration lo hi flow (step flow (trial lo hi flow c))
-        = sym silent.1 ∙ ap (λ (b : Configuration). configuration lo hi flow (step flow (trial lo hi flow b))) same in
+        let goes : configuration lo hi follows_after ≡ configuration lo hi (step flow (trial lo hi flow c))
+        = sym silent.1 ∙ ap (λ (b : Configuration). configuration lo hi (step flow (trial lo hi flow b))) same in
         record {
-          counters = follows_after.counters;
-          stands = subst₂ (λ (o : Option Exit) (b : Configuration). RunStands lo hi flow (suc n) (d + weight o) r tapes b.next follows_after.variables b.ended follows_after.counters)
+          stands = subst₂ (λ (o : Option Exit) (b : Configuration). RunStands lo hi flow (suc n) (d + weight o) r tapes b.next follows_after.variables b.ended)
               taken goes (stands_silent l q.stands);
           marks = ap (λ (b : Configuration). b.marks) goes;
-          counted = ap (λ (b : Configuration). b.counters) goes;
         }
 
     pub takes_still : (x : Exit) → exit_of flow (trial lo hi flow c) ≡ some x → StepTakes flow tapes c.next x (suc n)
@@ -98,10 +96,8 @@ module _ {lo hi : ℤ} {flow : Flow} (l : LegalFlow lo hi flow) where
       follows_fed a m i o f x g =
           let near = g.new-near r (all_set (Near lo hi r) v u (pos 0) q.stands.values_near (inside-near r l.zero)) in
           record {
-            counters = q.counters;
             stands = stands_fed l q.stands a u p m i o f g.faithful x g.near near;
             marks = sym (pattern-alike l.zero (granted l.zero u w v f x g)) ∙ e;
-            counted = q.counted;
           }
 
 -- ---- some run that stands at c after d exits

@@ -11,15 +11,14 @@ use native.Mathlib.Decide.{ℕ_discrete}
 use native.Mathlib.Numerals.{unary_clauses}
 use lib.IntN.{ℤ, pos}
 use lib.Signed.{lt_z}
-use lib.Dec.{ltb}
 use lib.ListN.{length, get_or, set, length-set, length-replicate}
 use lib.Seq.{get_or-set_same, get_or-set_other, set-set, set_comm}
 use Rattle.model.specs.Language.{Flow}
 use Rattle.model.specs.Machine.{State, Exit, exit_if, go_to, has_record, step, exit_of, start, steps, run}
 use Rattle.model.specs.Distance.{weight, exits_taken}
 use Rattle.model.proofs.Lists.{get_d_like}
-use Rattle.model.proofs.View.{on_tape, on_counter, taken, step_view, exit_view, step-view, exit_view_lem}
-use Rattle.model.specs.Inner.View.{View, reads, sets, tests, goes, stops, ticks, limits, view_at, term, ticked}
+use Rattle.model.proofs.View.{on_tape, taken, step_view, exit_view, step-view, exit_view_lem}
+use Rattle.model.specs.Inner.View.{View, reads, sets, tests, goes, stops, view_at, term}
 
 pub steps-end : (flow : Flow) (n : ℕ) (s : State) → steps flow (suc n) s ≡ step flow (steps flow n s)
 steps-end flow zero s = refl
@@ -29,12 +28,11 @@ pub run_end : (flow : Flow) (tapes : List (List ℤ)) (n : ℕ)
     → run flow tapes (suc n) ≡ step_view (view_at flow (run flow tapes n).next) (run flow tapes n)
 run_end flow tapes n = steps-end flow n (start flow tapes) ∙ step-view flow (run flow tapes n)
 
--- V values, T tapes, T ends, Z counters; and nothing is left on a tape whose end was met
+-- V values, T tapes, T ends; and nothing is left on a tape whose end was met
 pub record Fair (flow : Flow) (s : State) : Type 0 where
   pub values-count : length s.variables ≡ flow.variables
   pub tapes-count : length s.left ≡ flow.tapes
   pub ends-count : length s.ended ≡ flow.tapes
-  pub counters-count : length s.counters ≡ flow.counters
   pub spent : (a : ℕ) → get_or s.ended a false ≡ true → on_tape s a ≡ []
 
 cons_not_nil : {x : ℤ} {l : List ℤ} → x ∷ l ≡ [] → ⊥
@@ -45,7 +43,6 @@ fair_taken flow [] a v p m s e k = record {
   values-count = k.values-count;
   tapes-count = k.tapes-count;
   ends-count = length-set s.ended a true ∙ k.ends-count;
-  counters-count = k.counters-count;
   spent = λ b h. go b h (ℕ_discrete b a);
 }
   where
@@ -56,7 +53,6 @@ fair_taken flow (x ∷ rest) a v p m s e k = record {
   values-count = length-set s.variables v x ∙ k.values-count;
   tapes-count = length-set s.left a rest ∙ k.tapes-count;
   ends-count = k.ends-count;
-  counters-count = k.counters-count;
   spent = λ b h. go b h (ℕ_discrete b a);
 }
   where
@@ -65,13 +61,7 @@ fair_taken flow (x ∷ rest) a v p m s e k = record {
     go b h (no q) = get_or-set_other s.left a b rest [] q ∙ k.spent b h
 
 fair_next : (flow : Flow) (n : ℕ) (s : State) → Fair flow s → Fair flow (go_to n s)
-fair_next flow n s k = record {
-  values-count = k.values-count;
-  tapes-count = k.tapes-count;
-  ends-count = k.ends-count;
-  counters-count = k.counters-count;
-  spent = k.spent;
-}
+fair_next flow n s k = record { values-count = k.values-count; tapes-count = k.tapes-count; ends-count = k.ends-count; spent = k.spent }
 
 fair_step : (flow : Flow) (w : View) (s : State) → Fair flow s → Fair flow (step_view w s)
 fair_step flow (reads a v p m) s k = fair_taken flow (on_tape s a) a v p m s refl k
@@ -79,27 +69,17 @@ fair_step flow (sets t v n) s k = record {
   values-count = length-set s.variables v (term s.variables t) ∙ k.values-count;
   tapes-count = k.tapes-count;
   ends-count = k.ends-count;
-  counters-count = k.counters-count;
   spent = k.spent;
 }
 fair_step flow (tests x y p m) s k = fair_next flow (cond (lt_z (term s.variables x) (term s.variables y)) p m) s k
 fair_step flow (goes n) s k = fair_next flow n s k
 fair_step flow stops s k = k
-fair_step flow (ticks t z n) s k = record {
-  values-count = k.values-count;
-  tapes-count = k.tapes-count;
-  ends-count = k.ends-count;
-  counters-count = length-set s.counters z (ticked t (on_counter s z)) ∙ k.counters-count;
-  spent = k.spent;
-}
-fair_step flow (limits z c p m) s k = fair_next flow (cond (ltb (on_counter s z) c) p m) s k
 
 pub fair_run : (flow : Flow) (tapes : List (List ℤ)) → length tapes ≡ flow.tapes → (n : ℕ) → Fair flow (run flow tapes n)
 fair_run flow tapes h zero = record {
   values-count = length-replicate flow.variables (pos 0);
   tapes-count = h;
   ends-count = length-replicate flow.tapes false;
-  counters-count = length-replicate flow.counters 0;
   spent = λ a e. absurd (false≢true (sym (get_d_like flow.tapes a false) ∙ e));
 }
 fair_run flow tapes h (suc n) =
@@ -119,7 +99,7 @@ abbrev pub append : List (List ℤ) → ℕ → ℤ → List (List ℤ)
 append tapes a x = set tapes a (get_or tapes a [] ++ (x ∷ []))
 
 abbrev pub more : ℕ → ℤ → State → State
-more a x s = record { next = s.next; variables = s.variables; left = append s.left a x; ended = s.ended; counters = s.counters }
+more a x s = record { next = s.next; variables = s.variables; left = append s.left a x; ended = s.ended }
 
 append-same : (ts : List (List ℤ)) (a : ℕ) (x : ℤ) (rest : List ℤ) → a < length ts
     → set (append ts a x) a (rest ++ (x ∷ [])) ≡ append (set ts a rest) a x
@@ -158,8 +138,6 @@ module _ {flow : Flow} (a : ℕ) (x : ℤ) (s : State) (k : Fair flow s) (h : a 
   step-more (tests y z p m) o = refl
   step-more (goes n) o = refl
   step-more stops o = refl
-  step-more (ticks t z n) o = refl
-  step-more (limits z c p m) o = refl
 
 -- a tape whose end was met stays so
 end-set : (l : List Bool) (a b : ℕ) → get_or l a false ≡ true → get_or (set l b true) a false ≡ true
@@ -179,8 +157,6 @@ end_stays (sets t v n) a s h = h
 end_stays (tests x y p m) a s h = h
 end_stays (goes n) a s h = h
 end_stays stops a s h = h
-end_stays (ticks t z n) a s h = h
-end_stays (limits z c p m) a s h = h
 
 open_before : (w : View) (a : ℕ) (s : State) → get_or (step_view w s).ended a false ≡ false → get_or s.ended a false ≡ false
 open_before w a s h = go (get_or s.ended a false) refl
@@ -244,8 +220,6 @@ module _ (flow : Flow) (a : ℕ) (x : ℤ) (below : a < flow.tapes) where
   exit-more (tests y z p m) s k o = refl
   exit-more (goes n) s k o = refl
   exit-more stops s k o = refl
-  exit-more (ticks t z n) s k o = refl
-  exit-more (limits z c p m) s k o = refl
 
   pub exits-more : (tapes : List (List ℤ)) → length tapes ≡ flow.tapes → (n : ℕ) → get_or (run flow tapes n).ended a false ≡ false
       → exits_taken flow (append tapes a x) n ≡ exits_taken flow tapes n

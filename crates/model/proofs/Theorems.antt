@@ -1,22 +1,22 @@
 -- Distances and configurations, by the graph: the distance to an exit is the least cost of a path that ends with it, and none where no path does; what
 -- is reachable is what paths reach. A path is realised by tapes that are read to their ends, so each distance has a sample.
-use mathlib.Core.Path.{◌≡◌, refl, sym, ap, ap₂, ◌∙◌, subst}
+use mathlib.Core.Path.{◌≡◌, refl, sym, ap, ◌∙◌, subst, subst₂}
 use mathlib.Core.List.{List}
 use mathlib.Core.Option.{Option, some}
-use Prim.Native.Nat.{ℕ, ◌+◌, ◌-◌, ◌≤◌}
+use Prim.Native.Nat.{ℕ, suc, ◌+◌, ◌-◌, ◌≤◌}
 use native.Mathlib.Omega.{arith}
 use native.Mathlib.Decide.{ℕ_discrete}
 use lib.IntN.{ℤ}
 use lib.ListN.{length}
 use Rattle.graph.specs.Inner.Graph.{Path, Reached, ExitPath, ExitDistance, NoExit}
 use Rattle.model.specs.Language.{Flow}
-use Rattle.model.specs.Machine.{Exit, step, exit_of, run}
+use Rattle.model.specs.Machine.{Exit, step, exit_of, start, run}
 use Rattle.model.specs.Distance.{weight, exits_taken, StepTakes, Takes, Distance, NoDistance}
 use Rattle.model.specs.Pattern.{Mark}
 use Rattle.model.specs.Configuration.{Configuration, configuration, Reachable}
 use Rattle.model.specs.Sample.{Sample}
 use Rattle.model.proofs.Runs.{fair_run, exits-few, exits_rise}
-use Rattle.model.proofs.Graph.{configurations, run-path, simulate}
+use Rattle.model.proofs.Graph.{Edge, configurations, run-path, simulate}
 use Rattle.model.proofs.Follow.{stands-sample}
 use Rattle.model.proofs.Path.{Real, extend, realise}
 use Rattle.model.specs.Inner.View.{LegalFlow}
@@ -79,9 +79,9 @@ module _ {lo hi : ℤ} {flow : Flow} (l : LegalFlow lo hi flow) where
       let b = t.taking.before in
       let s = run flow tapes b in
       record {
-        from = configuration lo hi flow s;
+        from = configuration lo hi s;
         label = exit_of flow s;
-        target = configuration lo hi flow (step flow s);
+        target = configuration lo hi (step flow s);
         before = exits_taken flow tapes b;
         path = run-path l tapes h b;
         edge = simulate l s (fair_run flow tapes h b);
@@ -133,8 +133,8 @@ module _ {lo hi : ℤ} {flow : Flow} (l : LegalFlow lo hi flow) where
         tapes = q.tapes;
         count = q.follows.stands.count;
         n = q.steps;
-        arrives = ap (configuration lo hi flow) q.follows.stands.is
-            ∙ ap₂ (λ (m : List Mark) (z : List ℕ). record { next = c.next; ended = c.ended; marks = m; counters = z }) q.follows.marks q.follows.counted;
+        arrives = ap (configuration lo hi) q.follows.stands.is
+            ∙ ap (λ (m : List Mark). record { next = c.next; ended = c.ended; marks = m }) q.follows.marks;
       }
 
   -- ---- there is a sample for every distance

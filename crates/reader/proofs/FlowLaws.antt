@@ -43,7 +43,7 @@ all-kept h f n l (x ∷ xs) r s = ap₂ ◌∷◌ (clamp_kept h f n l x (r 0) (s
 module _ (h : Head) (fits : HeadFits h) (rows : List Row) (xs : List Instruction) (fit : AllFit h xs) (few : length xs ≤ 64)
     (front : take (length xs) rows ≡ map clamped xs) (past : drop (length xs) rows ≡ replicate (64 - length xs) (row_of stop)) where
   abbrev flow : Flow
-  flow = record { tapes = h.tapes; outputs = h.outputs; variables = h.variables; counters = h.counters; instructions = xs }
+  flow = record { tapes = h.tapes; outputs = h.outputs; variables = h.variables; instructions = xs }
 
   whole : ((j : ℕ) → all (is_named (length xs)) (fields (get_or xs j stop)) ≡ true) → rows ≡ map row_of xs ++ replicate (64 - length xs) (row_of stop)
   whole named =
@@ -56,7 +56,7 @@ module _ (h : Head) (fits : HeadFits h) (rows : List Row) (xs : List Instruction
       ap
       (λ (r : List Row). record {
         answer = Legal;
-        flow = record { tapes = h.tapes; outputs = h.outputs; variables = h.variables; counters = h.counters; count = length xs; instructions = r };
+        flow = record { tapes = h.tapes; outputs = h.outputs; variables = h.variables; count = length xs; instructions = r };
       })
       (whole (none_lost (length xs) 2 xs e))
   judged-is (some line) e = refl

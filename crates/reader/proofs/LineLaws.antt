@@ -18,7 +18,7 @@ use lib.Seq.{drop-cons, drop-drop, take-suc-set, drop-set-lt}
 use Rattle.model.specs.Language.{Instruction, fields}
 use Rattle.text.specs.Split.{lines, split}
 use Rattle.text.specs.Number.{numeral, natural}
-use Rattle.text.specs.Inner.Capped.{cap, cut_off, capped_number}
+use Rattle.text.specs.Inner.Capped.{cap, capped, capped_number}
 use Rattle.text.specs.declared.Number.TheVariants.{Value, Bad}
 use Rattle.text.proofs.Cap.{number-value, number_bad, test_cut}
 use Rattle.text.proofs.Parts.{lines_at, lines-at-end}
@@ -45,8 +45,8 @@ use Rattle.flow.proofs.ClampLaws.{in_range-row}
 use Rattle.flow.proofs.ReadLaws.{check-ok, given-ok}
 
 -- ---- what a row keeps of a number is what it keeps of the number capped
-bounded-capped : (z : ℤ) → bounded (cut_off z) ≡ bounded z
-unfolding bounded cut_off
+bounded-capped : (z : ℤ) → bounded (capped z) ≡ bounded z
+unfolding bounded capped
 bounded-capped (pos n) = by (dec_le n 100000)
   where
     by : Dec (n ≤ 100000) → bounded (pos (min n cap)) ≡ bounded (pos n)
@@ -122,12 +122,12 @@ module _ (cs : List Sort) (fs : List (List ℕ)) (ns : List ℤ) where
         by (some zs) q = (zs, refl, cc)
 
 -- ---- a number without a minus, and what a row keeps of a number
-pub number-natural : (f : List ℕ) (v : ℤ) → capped_number (numeral false f) ≡ Value v → (n : ℕ) × (natural f ≡ some n) × (v ≡ cut_off (pos n))
+pub number-natural : (f : List ℕ) (v : ℤ) → capped_number (numeral false f) ≡ Value v → (n : ℕ) × (natural f ≡ some n) × (v ≡ capped (pos n))
 number-natural f v e =
     let (z, written, is) = number-value (numeral false f) v e in
     by (natural f) z (sym (numeral-natural f) ∙ written) is
   where
-    by : (o : Option ℕ) (z : ℤ) → Option.map pos o ≡ some z → v ≡ cut_off z → (n : ℕ) × (o ≡ some n) × (v ≡ cut_off (pos n))
+    by : (o : Option ℕ) (z : ℤ) → Option.map pos o ≡ some z → v ≡ capped z → (n : ℕ) × (o ≡ some n) × (v ≡ capped (pos n))
     by none z q is = absurd (none_no_some q)
     by (some n) z q is = (n, refl, cc)
 
@@ -138,12 +138,12 @@ number-none f e = by (natural f) (sym (numeral-natural f) ∙ number_bad (numera
     by none q = refl
     by (some n) q = absurd (none_no_some (sym q))
 
-small-capped : (z : ℤ) → small (nat_abs (cut_off z)) ≡ small (nat_abs z)
-unfolding cut_off
+small-capped : (z : ℤ) → small (nat_abs (capped z)) ≡ small (nat_abs z)
+unfolding capped
 small-capped (pos n) = omega arith
 small-capped (negsuc n) = omega arith
 
-pub turn_read : (n : ℕ) (v : ℤ) → v ≡ cut_off (pos n) → small (nat_abs v) ≡ small n
+pub turn_read : (n : ℕ) (v : ℤ) → v ≡ capped (pos n) → small (nat_abs v) ≡ small n
 turn_read n v is = rw is (small-capped (pos n))
 
 -- ---- the row of the line: the numbers that the code holds, with 0 past those of the kind's fields

@@ -3,41 +3,16 @@ ghost use Rattle.std.specs.Prelude.{◌≡◌, map, ◌-◌, ◌≤◌, length, 
 ghost use Rattle.model.specs.Language.{stop};
 ghost use Rattle.text.specs.Split.{lines, split};
 ghost use Rattle.flow.specs.Limits.{max_instructions};
-ghost use Rattle.text.specs.Inner.Divided.{Divided};
-ghost use Rattle.flow.specs.Read.{read_counters, read_head, read_lines, lost_target};
+ghost use Rattle.flow.specs.Read.{read_head, read_lines, lost_target};
 ghost use Rattle.flow.specs.Code.{row_of};
 ghost use Rattle.flow.specs.Inner.Reader.{head_in, HeadFits};
-ghost use Rattle.reader.specs.Inner.Lines.{counters_in, lost_in, lines_in, kept_rows};
+ghost use Rattle.reader.specs.Inner.Lines.{lost_in, lines_in, kept_rows};
 ghost use Rattle.flow.specs.Inner.Rows.{instruction_of};
 
 use crate::line;
 use crate::line::{Begun, Ended, Small};
 use flow::{Answer, Flow, Head, Headed, Instruction, Refusal, lent, rows, words};
-use text::{Fields, Number};
-
-// What the field of the counters is read as.
-#[derive(Drop)]
-pub enum Counters {
-    Declared(u8),
-    Fault(Refusal),
-}
-
-// The field behind the first four of line 1, if there is one.
-fn read_counters(line: &[u8], cut: Fields) -> Counters
-    requires { Divided line.now cut.count cut.ends }
-    ensures { counters_in result ≡ read_counters (drop 4 (split line.now)) }
-{
-    if cut.count <= 4 {
-        return Counters::Declared(0);
-    }
-    let Small::Value(z) = line::small_at(line, cut, 4) else {
-        return Counters::Fault(Refusal::BadNumber(1));
-    };
-    if (1 <= z) & (z <= Flow::MAX_COUNTERS) {
-        return Counters::Declared(z);
-    }
-    Counters::Fault(Refusal::OutOfRange(1))
-}
+use text::Number;
 
 // Line 1.
 pub fn read_head(line: &[u8]) -> Headed
@@ -48,8 +23,7 @@ pub fn read_head(line: &[u8]) -> Headed
     if !text::same_word(text::field(line, ends, cut.count, 0), b"flow") {
         return Headed::Fault(Refusal::UnknownWord(1));
     }
-    let counted = (cut.count == 4) | (cut.count == 5);
-    if !counted {
+    if cut.count != 4 {
         return Headed::Fault(Refusal::WrongCount(1));
     }
     let Small::Value(tapes) = line::small_at(line, cut, 1) else {
@@ -61,10 +35,7 @@ pub fn read_head(line: &[u8]) -> Headed
     let Small::Value(variables) = line::small_at(line, cut, 3) else {
         return Headed::Fault(Refusal::BadNumber(1));
     };
-    match read_counters(line, cut) {
-        Counters::Declared(counters) => Flow::head(tapes, outputs, variables, counters),
-        Counters::Fault(r) => Headed::Fault(r),
-    }
+    Flow::head(tapes, outputs, variables)
 }
 
 // What the instruction lines are read as: rows past the count hold `stop`.

@@ -14,7 +14,6 @@ use Rattle.model.specs.Machine.{exit_if}
 use Rattle.model.specs.Distance.{Distance}
 use Rattle.flow.specs.Limits.{max_instructions, least_constant, greatest_constant}
 use Rattle.flow.specs.declared.Refusal.TheVariants.{ShortRow}
-use Rattle.constants.specs.Inner.Caps.{caps_of}
 use Rattle.configuration.specs.Inner.Op.{op_of}
 use Rattle.pattern_word.specs.Inner.Pattern.{Width}
 use Rattle.configuration.specs.declared.Op.{Op}
@@ -125,10 +124,10 @@ module _ {flow : Flow} {e : Entries} {n room : ℕ} {ops : List Op} {w : ℕ} {l
   pub tabled_last : i ≤ max_instructions
   tabled_last = omega (arith, exits-last flow i t.wanted, t.legal.size.1)
 
-  op_is : get_or ops (i - 1) blank ≡ op_of lo (caps_of flow) (instruction flow i)
+  op_is : get_or ops (i - 1) blank ≡ op_of lo (instruction flow i)
   op_is =
       let n : suc (i - 1) ≡ i = omega (arith, tabled_first) in
-      prepared.each (i - 1) (omega (arith, tabled_first, tabled_last)) ∙ ap (λ (j : ℕ). op_of lo (caps_of flow) (instruction flow j)) n
+      prepared.each (i - 1) (omega (arith, tabled_first, tabled_last)) ∙ ap (λ (j : ℕ). op_of lo (instruction flow j)) n
 
   module _ (exit : Bool) where
     pub nothing_picked : (tapes : ℕ) (row : List ℤ) (r : SampleAnswer) → NearestIs w e n ops i (exit_if exit) Nothing → r ≡ bare Never

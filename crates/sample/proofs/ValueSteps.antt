@@ -28,20 +28,19 @@ use Rattle.sample_row.proofs.Followed.{SilentStep}
 use Rattle.pattern_word.specs.Inner.Pattern.{max_width, lanes, values_of}
 use Rattle.configuration.specs.Inner.Place.{at_of, ends_of, go_of, finish_of, configuration_of}
 use Rattle.constants.specs.Inner.Constants.{offset}
-use Rattle.constants.specs.Inner.Caps.{caps_of}
 use Rattle.configuration.specs.Inner.Op.{op_of}
 use Rattle.configuration.specs.Inner.Step.{ended_of, next_by, next_of, take_of, word_exit_of}
 use Rattle.configuration.specs.Inner.Graph.{WordEdge, moves, takes, op_at}
 use Rattle.configuration.specs.declared.Words.{Words}
 use Rattle.configuration.specs.declared.Op.{Op}
 use Rattle.configuration.specs.declared.Action.{Action}
-use Rattle.configuration.specs.declared.Action.TheVariants.{Read, Assign, Test, Go, Stop, Tick, Limit}
+use Rattle.configuration.specs.declared.Action.TheVariants.{Read, Assign, Test, Go, Stop}
 use Rattle.pattern_word.proofs.Span.{inside-real}
 use Rattle.constants.proofs.Offsets.{offset-is}
 use Rattle.pattern_word.proofs.FourLanes.{length_values_of}
 use Rattle.configuration.proofs.Prepared.{op_constant}
 use Rattle.configuration.proofs.Places.{ends_go, ends_finish, length-ends}
-use Rattle.configuration.proofs.Means.{Names, Means, means_reads, means_sets, means_tests, means_goes, means_stops, means_ticks, means_limits, means, read_view}
+use Rattle.configuration.proofs.Means.{Names, Means, means_reads, means_sets, means_tests, means_goes, means_stops, means, read_view}
 use Rattle.configuration.proofs.Steps.{spread_words, marks_stay}
 use Rattle.pattern_word.specs.Inner.Span.{real}
 use Rattle.configuration.specs.Inner.Fits.{FlowFits, ProperWords}
@@ -55,8 +54,6 @@ fit-wider f = record {
   legal = legal-wider f.legal 3 4 f.tapes f.variables;
   tapes = omega arith;
   variables = omega arith;
-  counters = f.counters;
-  caps = f.caps;
   targets = f.targets;
 }
 
@@ -85,8 +82,6 @@ module _ (w : ℕ) (o : Op) (x : Words) where
       go Test = refl
       go Go = refl
       go Stop = refl
-      go Tick = refl
-      go Limit = refl
 
   takes_record_lem : (y : ℕ) → o.action ≡ Read → ended_of x.place o.tape ≡ false → takes_record o (take_of w o x y) ≡ true
   unfolding takes_record take_of
@@ -103,17 +98,15 @@ module _ {lo hi : ℤ} {w : ℕ} {flow : Flow} (f : FlowFits lo hi w flow) where
   plain : (v : ℕ) (o : Op) → o.tape ≡ 0 → o.variable ≡ v → v < 4 → o.constant < max_width → OpFits o
   plain v o a b h k = record { tape = omega arith; variable = omega arith; constant = k }
 
-  fine : (o : Op) (v : View) → Means lo (caps_of flow) o v → SoundView lo hi flow v → o.constant < max_width → OpFits o
+  fine : (o : Op) (v : View) → Means lo o v → SoundView lo hi flow v → o.constant < max_width → OpFits o
   fine o v (means_reads a u p m) h k = let few = f.tapes in record { tape = omega (arith, h.0); variable = lane-small u h.1; constant = k }
   fine o v (means_sets t u n i c e) h k = plain u o refl refl (lane-small u h.1) k
   fine o v (means_tests s t p m i j c e e') h k = plain 0 o refl refl (omega arith) k
   fine o v (means_goes n) h k = plain 0 o refl refl (omega arith) k
   fine o v means_stops h k = plain 0 o refl refl (omega arith) k
-  fine o v (means_ticks t z n) h k = plain 0 o refl refl (omega arith) k
-  fine o v (means_limits z c p m) h k = plain 0 o refl refl (omega arith) k
 
-  constant-small : (i : Instruction) → ((c : ℤ) → In c (constants (fields i)) → Inside lo hi c) → (op_of lo (caps_of flow) i).constant < max_width
-  constant-small i h = rw (op_constant lo (caps_of flow) i) (by (constants (fields i)) h)
+  constant-small : (i : Instruction) → ((c : ℤ) → In c (constants (fields i)) → Inside lo hi c) → (op_of lo i).constant < max_width
+  constant-small i h = rw (op_constant lo i) (by (constants (fields i)) h)
     where
       by : (cs : List ℤ) → ((c : ℤ) → In c cs → Inside lo hi c) → get_or (map (λ c. offset c lo) cs) 0 0 < max_width
       by [] g = omega arith
@@ -122,7 +115,7 @@ module _ {lo hi : ℤ} {w : ℕ} {flow : Flow} (f : FlowFits lo hi w flow) where
   pub op_fine : (x : Words) → OpFits (op_at lo flow x)
   op_fine x =
       let i = at_of x.place in
-      fine (op_at lo flow x) (view_at flow i) (means lo (caps_of flow) (instruction flow i)) (sound f.legal i) (constant-small (instruction flow i) (f.legal.constants_inside i))
+      fine (op_at lo flow x) (view_at flow i) (means lo (instruction flow i)) (sound f.legal i) (constant-small (instruction flow i) (f.legal.constants_inside i))
 
   -- ---- the values after a step that reads no record
   term_is : (o : Op) (u : ℕ) (t : Term) → Names lo u o.constant t → SoundTerm lo hi flow t → (l : List ℤ) → term_in lo o l u ≡ term l t
@@ -131,20 +124,18 @@ module _ {lo hi : ℤ} {w : ℕ} {flow : Flow} (f : FlowFits lo hi w flow) where
   term_is o u (literal d) (four, e) h l =
       rw (le-ltb u 4 four) (ap (λ (j : ℕ). lo +ℤ pos j) e ∙ omega (zarith, add_pos lo (offset d lo), offset-is d lo h.low))
 
-  values_by_lem : (o : Op) (v : View) → Means lo (caps_of flow) o v → SoundView lo hi flow v → (l : List ℤ) → values_by o.action lo o l ≡ silent_values v l
+  values_by_lem : (o : Op) (v : View) → Means lo o v → SoundView lo hi flow v → (l : List ℤ) → values_by o.action lo o l ≡ silent_values v l
   values_by_lem o v (means_reads a u p m) h l = refl
   values_by_lem o v (means_sets t u n j c k) h l = ap (set l u) (term_is o j t k h.0 l)
   values_by_lem o v (means_tests s t p m u u' c k k') h l = refl
   values_by_lem o v (means_goes n) h l = refl
   values_by_lem o v means_stops h l = refl
-  values_by_lem o v (means_ticks t z n) h l = refl
-  values_by_lem o v (means_limits z c p m) h l = refl
 
   pub quiet_silent : (x : Words) (walk : Walk) → quiet_walk lo (op_at lo flow x) walk ≡ silent_after (view_at flow (at_of x.place)) walk
   unfolding quiet_walk
   quiet_silent x walk =
       let i = at_of x.place in
-      let e = values_by_lem (op_at lo flow x) (view_at flow i) (means lo (caps_of flow) (instruction flow i)) (sound f.legal i) walk.values in
+      let e = values_by_lem (op_at lo flow x) (view_at flow i) (means lo (instruction flow i)) (sound f.legal i) walk.values in
       λ j. record { values = e j; counts = walk.counts; starts = walk.starts }
 
   -- ---- an edge by whether it reads a record
@@ -155,7 +146,7 @@ module _ {lo hi : ℤ} {w : ℕ} {flow : Flow} (f : FlowFits lo hi w flow) where
     -- a read: its view, and that its tape is one of the flow's
     module _ (r : o.action ≡ Read) where
       pub read_is : view_at flow (at_of x.place) ≡ reads o.tape o.variable o.p o.m
-      read_is = read_view lo (caps_of flow) o (view_at flow (at_of x.place)) (means lo (caps_of flow) (instruction flow (at_of x.place))) r
+      read_is = read_view lo o (view_at flow (at_of x.place)) (means lo (instruction flow (at_of x.place))) r
 
       pub read_own : o.tape < flow.tapes
       read_own = (subst (SoundView lo hi flow) read_is (sound f.legal (at_of x.place))).0
@@ -165,18 +156,16 @@ module _ {lo hi : ℤ} {w : ℕ} {flow : Flow} (f : FlowFits lo hi w flow) where
     edge_record moves h = never (sym (moves-none w o x (op_fine x).tape) ∙ h)
     edge_record (takes y r q t) h = (refl, r, q)
 
-    exit_silent : (p : Op) (v : View) → Means lo (caps_of flow) p v → SilentStep v (word_exit_of w p x)
+    exit_silent : (p : Op) (v : View) → Means lo p v → SilentStep v (word_exit_of w p x)
     unfolding word_exit_of
     exit_silent p v (means_reads a u n m) = refl
     exit_silent p v (means_sets t u n j c k) = tt
     exit_silent p v (means_tests s t n m u u' c k k') = tt
     exit_silent p v (means_goes n) = tt
     exit_silent p v means_stops = tt
-    exit_silent p v (means_ticks t z n) = tt
-    exit_silent p v (means_limits z c n m) = tt
 
     pub moves_silent : SilentStep (view_at flow (at_of x.place)) (word_exit_of w o x)
-    moves_silent = exit_silent o (view_at flow (at_of x.place)) (means lo (caps_of flow) (instruction flow (at_of x.place)))
+    moves_silent = exit_silent o (view_at flow (at_of x.place)) (means lo (instruction flow (at_of x.place)))
 
     pub edge_silent : {e : Option Exit} {x' : Words} → WordEdge w o x e x' → takes_record o x' ≡ false → SilentStep (view_at flow (at_of x.place)) e
     edge_silent moves h = moves_silent

@@ -14,7 +14,6 @@ use Rattle.model.specs.Machine.{exit_if}
 use Rattle.model.specs.Distance.{Distance}
 use Rattle.flow.specs.Limits.{least_constant, greatest_constant}
 use Rattle.configuration.specs.Inner.Place.{at_of}
-use Rattle.constants.specs.Inner.Caps.{caps_of}
 use Rattle.configuration.specs.Inner.Op.{op_of}
 use Rattle.configuration.specs.Inner.Step.{takes_of}
 use Rattle.configuration.specs.Inner.Graph.{op_at}
@@ -50,7 +49,7 @@ module _ {lo hi : ℤ} {w : ℕ} {flow : Flow} (f : FlowFits lo hi w flow) {e : 
   }
 
   -- the entry that `nearest` finds for the exit of instruction i
-  pub found_ends : (i : ℕ) (exit : Bool) (op : Op) → op ≡ op_of lo (caps_of flow) (instruction flow i)
+  pub found_ends : (i : ℕ) (exit : Bool) (op : Op) → op ≡ op_of lo (instruction flow i)
       → FirstIs (takes_at w e.places e.patterns op i (exit_if exit)) n (At at)
       → Ends (course e.places e.patterns e.distances path last ops w lo hi) flow exit
       × (end_of (course e.places e.patterns e.distances path last ops w lo hi) ≡ i)
@@ -59,7 +58,7 @@ module _ {lo hi : ℤ} {w : ℕ} {flow : Flow} (f : FlowFits lo hi w flow) {e : 
       let end : words_on e path last ≡ words_at e at = way_ends t way in
       let stands : at_of (words_on e path last).place ≡ i = ap (λ (x : Words). at_of x.place) end ∙ here in
       let far : distance_of e at ≡ distance_of e (get_or path last 0) = ap (distance_of e) (sym way.ends) in
-      let same : op ≡ op_at lo flow (words_on e path last) = is ∙ ap (λ (j : ℕ). op_of lo (caps_of flow) (instruction flow j)) (sym stands) in (
+      let same : op ≡ op_at lo flow (words_on e path last) = is ∙ ap (λ (j : ℕ). op_of lo (instruction flow j)) (sym stands) in (
         record {
           takes = subst (λ (o : Op). takes_of w o (words_on e path last) (exit_if exit) ≡ true) same
               (subst (λ (x : Words). takes_of w op x (exit_if exit) ≡ true) (sym end) takes);

@@ -108,12 +108,6 @@ fn quiet(walk: Walk, op: Op, lo: i32) -> Walk
         Action::Stop => {
             return walk;
         }
-        Action::Tick => {
-            return walk;
-        }
-        Action::Limit => {
-            return walk;
-        }
     }
 }
 

@@ -27,7 +27,7 @@ use Rattle.model.proofs.Path.{Grants, follows-start, follows_still, takes_still,
 use Rattle.model.specs.Tapes.{total}
 use Rattle.model.specs.Inner.Lists.{All}
 use Rattle.model.specs.Inner.Integers.{Inside}
-use Rattle.model.specs.Inner.View.{literal, View, reads, sets, tests, goes, stops, ticks, limits, view_at, lane_value, LegalFlow}
+use Rattle.model.specs.Inner.View.{literal, View, reads, sets, tests, goes, stops, view_at, lane_value, LegalFlow}
 use Rattle.model.specs.Inner.Runs.{resting, Follows, wider}
 use Rattle.sample_row.specs.Inner.Layout.{tapes_at}
 use Rattle.sample_row.specs.Inner.Choices.{chosen, move_of, record_of}
@@ -54,8 +54,6 @@ SilentStep (sets t v n) o = Unit {0}
 SilentStep (tests x y p m) o = Unit {0}
 SilentStep (goes n) o = Unit {0}
 SilentStep stops o = Unit {0}
-SilentStep (ticks t z n) o = Unit {0}
-SilentStep (limits z c p m) o = Unit {0}
 
 module _ (lo hi : ℤ) (flow : Flow) where
   fed_edge : (c c' : Configuration) (o : Option Exit) → Edge lo hi flow c o c' → o ≡ some p_exit
@@ -76,14 +74,12 @@ module _ (lo hi : ℤ) (flow : Flow) where
         is = λ k. fed_with lo hi (sym qu k) (sym qp k) y c;
       }
 
-  values_after : (w : View) (k : ℕ) (v : List ℤ) (e : List Bool) (z : List ℕ) → (step_view w (resting flow k v e z)).variables ≡ silent_values w v
-  values_after (reads a u p m) k v e z = rw (get_d_like {A = List ℤ} flow.tapes a []) refl
-  values_after (sets t u n) k v e z = refl
-  values_after (tests x y p m) k v e z = refl
-  values_after (goes n) k v e z = refl
-  values_after stops k v e z = refl
-  values_after (ticks t y n) k v e z = refl
-  values_after (limits y c p m) k v e z = refl
+  values_after : (w : View) (k : ℕ) (v : List ℤ) (e : List Bool) → (step_view w (resting flow k v e)).variables ≡ silent_values w v
+  values_after (reads a u p m) k v e = rw (get_d_like {A = List ℤ} flow.tapes a []) refl
+  values_after (sets t u n) k v e = refl
+  values_after (tests x y p m) k v e = refl
+  values_after (goes n) k v e = refl
+  values_after stops k v e = refl
 
 -- ---- the start
 none_written : (sizes : List ℕ) (row : List ℤ) → tapes_written (first_walk sizes) row ≡ replicate 3 []
@@ -124,10 +120,10 @@ module _ {lo hi : ℤ} {flow : Flow} (l : LegalFlow lo hi flow) where
     )
       where
         here : State
-        here = resting flow c.next v c.ended q.counters
+        here = resting flow c.next v c.ended
 
         same : (step flow here).variables ≡ silent_values (view_at flow c.next) v
-        same = ap (λ (t : State). t.variables) (step-view flow here) ∙ values_after lo hi flow (view_at flow c.next) c.next v c.ended q.counters
+        same = ap (λ (t : State). t.variables) (step-view flow here) ∙ values_after lo hi flow (view_at flow c.next) c.next v c.ended
     follows_silent c' o (fed a u p m y i open_still near) s =
         let e : some p_exit ≡ some m_exit = subst (λ (w : View). SilentStep w (some p_exit)) i s in
         let z : ◌≡◌ {A = ℕ} 0 1 = cc in

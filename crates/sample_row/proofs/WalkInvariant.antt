@@ -18,7 +18,7 @@ use Rattle.model.proofs.Runs.{append}
 use Rattle.model.specs.Tapes.{tapes_in, total}
 use Rattle.model.specs.Inner.Lists.{All}
 use Rattle.model.specs.Inner.Integers.{Inside}
-use Rattle.model.specs.Inner.View.{View, reads, sets, tests, goes, stops, ticks, limits, view_at, term, LegalFlow}
+use Rattle.model.specs.Inner.View.{View, reads, sets, tests, goes, stops, view_at, term, LegalFlow}
 use Rattle.sample_row.specs.Inner.Moves.{moved, Movable}
 use Rattle.sample_row.specs.Inner.Layout.{tapes_at, Apart, Laid}
 use Rattle.sample_row.specs.Inner.Choices.{chosen, move_of, record_of}
@@ -166,5 +166,3 @@ module _ {lo hi : ℤ} {sizes : List ℕ} {walk : Walk} {row : List ℤ} (fit : 
       go (tests x y p m) h = fit
       go (goes n) h = fit
       go stops h = fit
-      go (ticks t z n) h = fit
-      go (limits z c p m) h = fit

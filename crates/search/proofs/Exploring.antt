@@ -19,14 +19,13 @@ use Rattle.model.proofs.Runs.{weight-small}
 use Rattle.flow.specs.Limits.{max_instructions}
 use Rattle.flow.specs.Legal.{Legal}
 use Rattle.configuration.specs.Inner.Place.{at_of}
-use Rattle.constants.specs.Inner.Caps.{caps_of}
 use Rattle.configuration.specs.Inner.Op.{op_of}
 use Rattle.configuration.specs.Inner.Step.{weight_of, goes_on_by, goes_on_of, start_of}
 use Rattle.configuration.specs.Inner.Graph.{op_at, word_graph}
 use Rattle.configuration.specs.declared.Words.{Words}
 use Rattle.configuration.specs.declared.Op.{Op}
 use Rattle.configuration.specs.declared.Action.{Action}
-use Rattle.configuration.specs.declared.Action.TheVariants.{Read, Assign, Test, Go, Stop, Tick, Limit}
+use Rattle.configuration.specs.declared.Action.TheVariants.{Read, Assign, Test, Go, Stop}
 use Rattle.configuration.proofs.Edges.{read-lane, edge-proper}
 use Rattle.configuration.proofs.WordExits.{edge-weight, free_stays}
 use Rattle.configuration.proofs.Reaches.{start-proper}
@@ -53,15 +52,15 @@ use Rattle.search_visit.proofs.Marks.{true_false}
 
 -- ---- the instruction of a place, as the walk picks it
 pub picked : {lo : ℤ} {flow : Flow} {ops : List Op} → Prepared lo flow ops → (place i : ℕ) → at_of place ≡ i + 1 → i < max_instructions
-    → get_or ops i blank ≡ op_of lo (caps_of flow) (instruction flow (at_of place))
+    → get_or ops i blank ≡ op_of lo (instruction flow (at_of place))
 picked {lo} {flow} p place i e l =
     let s : suc i ≡ at_of place = omega arith in
-    p.each i l ∙ ap (λ (n : ℕ). op_of lo (caps_of flow) (instruction flow n)) s
+    p.each i l ∙ ap (λ (n : ℕ). op_of lo (instruction flow n)) s
 
 -- a step that goes on without an exit reads no record
-pub goes-on_shut : (op : Op) (x : Words) → goes_on_of op ≡ true → opens_of op x ≡ false
+pub goes_on_shut : (op : Op) (x : Words) → goes_on_of op ≡ true → opens_of op x ≡ false
 unfolding goes_on_of opens_of
-goes-on_shut op x = go op.action
+goes_on_shut op x = go op.action
   where
     go : (a : Action) → goes_on_by a ≡ true → opens_by a op x ≡ false
     go Read e = absurd (true_false (sym e))
@@ -69,8 +68,6 @@ goes-on_shut op x = go op.action
     go Test e = refl
     go Go e = refl
     go Stop e = refl
-    go Tick e = refl
-    go Limit e = refl
 
 -- an entry has its cell
 pub entry-room : {w : ℕ} (c : List (List ℕ)) {count cells i : ℕ} → SearchReady w (columns_of c) count cells → i < count → i < length c

@@ -2,7 +2,6 @@
 -- of its instructions, or stays. So a pass over the entries of a table finds the instruction of each among the prepared ones.
 use mathlib.Core.Path.{◌≡◌, subst}
 use mathlib.Core.Bool.{Bool, true, false, cond}
-use mathlib.Core.List.{List}
 use mathlib.Core.Option.{Option}
 use Prim.Native.Nat.{ℕ, ◌≤◌}
 use native.Mathlib.Omega.{arith}
@@ -18,15 +17,14 @@ use Rattle.flow.specs.Limits.{max_instructions}
 use Rattle.flow.specs.Legal.{Legal}
 use Rattle.flow.proofs.Tests.{legal-targets}
 use Rattle.configuration.specs.Inner.Place.{at_of}
-use Rattle.constants.specs.Inner.Caps.{caps_of}
-use Rattle.configuration.specs.Inner.Step.{holds_of, fewer_of, go_on, take_of, next_by, next_of, start_of}
+use Rattle.configuration.specs.Inner.Step.{holds_of, go_on, take_of, next_by, next_of, start_of}
 use Rattle.configuration.specs.Inner.Graph.{WordEdge, moves, takes, op_at, word_graph}
 use Rattle.configuration.specs.declared.Words.{Words}
 use Rattle.configuration.specs.declared.Op.{Op}
 use Rattle.configuration.specs.declared.Action.{Action}
-use Rattle.configuration.specs.declared.Action.TheVariants.{Read, Assign, Test, Go, Stop, Tick, Limit}
-use Rattle.configuration.proofs.Means.{Means, means_reads, means_sets, means_tests, means_goes, means_stops, means_ticks, means_limits, means}
-use Rattle.configuration.proofs.Places.{at_go, at_finish, at_tick}
+use Rattle.configuration.specs.declared.Action.TheVariants.{Read, Assign, Test, Go, Stop}
+use Rattle.configuration.proofs.Means.{Means, means_reads, means_sets, means_tests, means_goes, means_stops, means}
+use Rattle.configuration.proofs.Places.{at_go, at_finish}
 use Rattle.cells.specs.Cells.{most_cells}
 use Rattle.cells.specs.Inner.Entries.{Entries}
 use Rattle.search_table.specs.Inner.Table.{table_of, Complete}
@@ -43,17 +41,13 @@ Aimed Assign op = Named op.p
 Aimed Test op = Named op.p × Named op.m
 Aimed Go op = Named op.p
 Aimed Stop op = Unit {0}
-Aimed Tick op = Named op.p
-Aimed Limit op = Named op.p × Named op.m
 
-aimed : (lo : ℤ) (caps : List ℕ) (o : Op) (v : View) → Means lo caps o v → Targeted Named v → Aimed o.action o
-aimed lo caps o v (means_reads a u p m) h = h
-aimed lo caps o v (means_sets t u n i c k) h = h
-aimed lo caps o v (means_tests s t p m i j c k k') h = h
-aimed lo caps o v (means_goes n) h = h
-aimed lo caps o v means_stops h = tt
-aimed lo caps o v (means_ticks t z n) h = h
-aimed lo caps o v (means_limits z c p m) h = h
+aimed : (lo : ℤ) (o : Op) (v : View) → Means lo o v → Targeted Named v → Aimed o.action o
+aimed lo o v (means_reads a u p m) h = h
+aimed lo o v (means_sets t u n i c k) h = h
+aimed lo o v (means_tests s t p m i j c k k') h = h
+aimed lo o v (means_goes n) h = h
+aimed lo o v means_stops h = tt
 
 stands_at : (place n : ℕ) → at_of place ≡ n → Named n → Stands place
 stands_at place n e h = record { first = omega (arith, h.0); last = omega (arith, h.1) }
@@ -67,18 +61,16 @@ module _ (w : ℕ) (o : Op) (x : Words) (here : Stands x.place) where
   unfolding take_of
   take-stands y h = stands_at _ o.p (at_go x.place o.p (omega (arith, h.1))) h
 
-  either_stands : (b : Bool) → Named o.p → Named o.m → Stands (go_on x (cond b o.p o.m)).place
-  either_stands true p m = go_stands o.p p
-  either_stands false p m = go_stands o.m m
-
   next-stands : (a : Action) → Aimed a o → Stands (next_by a w o x).place
   next-stands Read (p, m) = stands_at _ o.m (at_finish x.place o.tape o.m (omega (arith, m.1))) m
   next-stands Assign h = take-stands _ h
-  next-stands Test (p, m) = either_stands (holds_of w o x) p m
+  next-stands Test (p, m) = by (holds_of w o x)
+    where
+      by : (b : Bool) → Stands (go_on x (cond b o.p o.m)).place
+      by true = go_stands o.p p
+      by false = go_stands o.m m
   next-stands Go h = go_stands o.p h
   next-stands Stop h = here
-  next-stands Tick h = stands_at _ o.p (at_tick x.place o.counter o.limit o.p (omega (arith, h.1))) h
-  next-stands Limit (p, m) = either_stands (fewer_of o x) p m
 
   pub edge-stands : Aimed o.action o → {e : Option Exit} {x' : Words} → WordEdge w o x e x' → Stands x'.place
   unfolding next_of
@@ -92,7 +84,7 @@ module _ {flow : Flow} (l : Legal flow) (lo : ℤ) (w : ℕ) where
   path-stands (onward {x = x} p e q) =
       let i = at_of x.place in
       let targets = legal-targets Named flow (λ n h. omega (arith, h, l.size)) l i in
-      edge-stands w (op_at lo flow x) x (path-stands p) (aimed lo (caps_of flow) (op_at lo flow x) (view_at flow i) (means lo (caps_of flow) (instruction flow i)) targets) e
+      edge-stands w (op_at lo flow x) x (path-stands p) (aimed lo (op_at lo flow x) (view_at flow i) (means lo (instruction flow i)) targets) e
 
 -- a pass can walk the entries of a finished table
 pub complete-walkable : {lo : ℤ} {w : ℕ} {flow : Flow} {e : Entries} {n : ℕ} → Legal flow → Complete lo w flow e n → n ≤ most_cells

@@ -18,7 +18,6 @@ use Rattle.model.specs.Machine.{Exit}
 use Rattle.model.specs.Distance.{Distance, NoDistance}
 use Rattle.flow.proofs.Tests.{and_split}
 use Rattle.configuration.specs.Inner.Place.{at_of}
-use Rattle.constants.specs.Inner.Caps.{caps_of}
 use Rattle.configuration.specs.Inner.Op.{op_of}
 use Rattle.configuration.specs.Inner.Step.{takes_of}
 use Rattle.configuration.specs.declared.Op.{Op}
@@ -39,19 +38,19 @@ both_true a b h k = rw (h, k)
 module _ {lo hi : ℤ} {w : ℕ} {flow : Flow} (f : FlowFits lo hi w flow) {e : Entries} {n : ℕ} (t : Complete lo w flow e n) (i : ℕ) (x : Exit) where
   -- entry k stands at instruction i and takes exit x
   abbrev takes : ℕ → Bool
-  takes = takes_at w e.places e.patterns (op_of lo (caps_of flow) (instruction flow i)) i x
+  takes = takes_at w e.places e.patterns (op_of lo (instruction flow i)) i x
 
   takes_finds : (k : ℕ) → k < n → takes k ≡ true → Finds f i x (distance_of e k)
   unfolding takes_at table_of
   takes_finds k l h =
       let y = words_at e k in
-      let (p, q) = and_split (eqb (at_of y.place) i) (takes_of w (op_of lo (caps_of flow) (instruction flow i)) y x) h in
+      let (p, q) = and_split (eqb (at_of y.place) i) (takes_of w (op_of lo (instruction flow i)) y x) h in
       let here = eqb-true (at_of y.place) i p in
       record {
         at = y;
         path = entry-path t.sound k l;
         here = here;
-        takes = subst (λ (j : ℕ). takes_of w (op_of lo (caps_of flow) (instruction flow j)) y x ≡ true) (sym here) q;
+        takes = subst (λ (j : ℕ). takes_of w (op_of lo (instruction flow j)) y x ≡ true) (sym here) q;
       }
 
   finds_takes : (m : ℕ) → Finds f i x m → (k : ℕ) × (k < n) × (takes k ≡ true) × (distance_of e k ≤ m)
@@ -59,8 +58,8 @@ module _ {lo hi : ℤ} {w : ℕ} {flow : Flow} (f : FlowFits lo hi w flow) {e : 
   finds_takes m q =
       let s = path_stored t.sound t.closed q.path in
       let y = q.at in
-      let op = op_of lo (caps_of flow) (instruction flow i) in
-      let k = subst (λ (j : ℕ). takes_of w (op_of lo (caps_of flow) (instruction flow j)) y x ≡ true) q.here q.takes in (
+      let op = op_of lo (instruction flow i) in
+      let k = subst (λ (j : ℕ). takes_of w (op_of lo (instruction flow j)) y x ≡ true) q.here q.takes in (
         s.at,
         s.below,
         subst (λ (z : Words). eqb (at_of z.place) i && takes_of w op z x ≡ true) (sym s.is)
@@ -88,11 +87,11 @@ module _ {lo hi : ℤ} {w : ℕ} {flow : Flow} (f : FlowFits lo hi w flow) {e : 
 
 -- what `nearest` finds of an exit
 module _ {lo hi : ℤ} {w : ℕ} {flow : Flow} (f : FlowFits lo hi w flow) {e : Entries} {n : ℕ} (t : Complete lo w flow e n) (i : ℕ) (x : Exit) (op : Op)
-    (prepared : op ≡ op_of lo (caps_of flow) (instruction flow i)) where
+    (prepared : op ≡ op_of lo (instruction flow i)) where
   abbrev found : Found → Type 0
   found r = FirstIs (takes_at w e.places e.patterns op i x) n r
 
-  moved : (r : Found) → found r → FirstIs (takes_at w e.places e.patterns (op_of lo (caps_of flow) (instruction flow i)) i x) n r
+  moved : (r : Found) → found r → FirstIs (takes_at w e.places e.patterns (op_of lo (instruction flow i)) i x) n r
   moved r h = subst (λ (o : Op). FirstIs (takes_at w e.places e.patterns o i x) n r) prepared h
 
   pub found_distance : (k : ℕ) → found (At k) → Distance flow i x (suc (distance_of e k))

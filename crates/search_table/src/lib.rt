@@ -173,8 +173,6 @@ pub fn is_read(action: Action) -> bool
         Action::Test => false,
         Action::Go => false,
         Action::Stop => false,
-        Action::Tick => false,
-        Action::Limit => false,
     }
 }
 

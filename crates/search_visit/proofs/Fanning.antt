@@ -18,7 +18,7 @@ use Rattle.configuration.specs.Inner.Graph.{WordEdge, moves, takes}
 use Rattle.configuration.specs.declared.Words.{Words}
 use Rattle.configuration.specs.declared.Op.{Op}
 use Rattle.configuration.specs.declared.Action.{Action}
-use Rattle.configuration.specs.declared.Action.TheVariants.{Read, Assign, Test, Go, Stop, Tick, Limit}
+use Rattle.configuration.specs.declared.Action.TheVariants.{Read, Assign, Test, Go, Stop}
 use Rattle.pattern_word.proofs.Trials.{trial_fits, trial_told}
 use Rattle.configuration.proofs.Members.{member-edge, edge-closed, first-again}
 use Rattle.cells.specs.Inner.Columns.{Rows}
@@ -56,8 +56,6 @@ opens_read op x = go op.action refl
     go Test e h = absurd (true_false (sym h))
     go Go e h = absurd (true_false (sym h))
     go Stop e h = absurd (true_false (sym h))
-    go Tick e h = absurd (true_false (sym h))
-    go Limit e h = absurd (true_false (sym h))
 
 read_opens : (op : Op) (x : Words) → op.action ≡ Read → ended_of x.place op.tape ≡ false → opens_of op x ≡ true
 read_opens op x e h = sym (opens_by_lem op x Read true e (ap not (sym h)))

@@ -128,12 +128,6 @@ fn opens(op: Op, x: Words) -> bool
         Action::Stop => {
             return false;
         }
-        Action::Tick => {
-            return false;
-        }
-        Action::Limit => {
-            return false;
-        }
     }
 }
 

@@ -85,13 +85,13 @@ no_bytes_lengths limit row (n ∷ k ∷ ks) numbers values other = rw (ne_eqb (l
 
 -- ---- a report with at least one cell, and without cells
 abbrev first : Configuration
-first = configuration (C1 only_stop) (C2 only_stop) only_stop (start only_stop ([] ∷ []))
+first = configuration (C1 only_stop) (C2 only_stop) (start only_stop ([] ∷ []))
 
 one : Census (Reachable (C1 only_stop) (C2 only_stop) only_stop) (first ∷ [])
 one =
     record {
       once = ((λ h. h), tt);
-      all = λ x r. inl (sym r.arrives ∙ ap (configuration (C1 only_stop) (C2 only_stop) only_stop) (stays r.tapes r.n));
+      all = λ x r. inl (sym r.arrives ∙ ap (configuration (C1 only_stop) (C2 only_stop)) (stays r.tapes r.n));
       only = λ x h. elim h [ inl e ↦ record { tapes = [] ∷ []; count = refl; n = 0; arrives = sym e } | inr h ↦ absurd h ];
     }
 

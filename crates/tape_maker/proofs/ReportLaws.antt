@@ -18,7 +18,6 @@ use Rattle.flow.specs.declared.Refusal.{Refusal}
 use Rattle.flow.specs.declared.Refusal.TheVariants.{TooFewCells}
 use Rattle.flow.specs.declared.Flow.{Flow as FlowRows}
 use Rattle.flow.specs.Inner.Rows.{instruction_of, flow_of}
-use Rattle.constants.specs.Inner.Caps.{caps_of}
 use Rattle.configuration.specs.Inner.Op.{op_of}
 use Rattle.pattern_word.specs.Inner.Pattern.{Width}
 use Rattle.configuration.specs.Inner.Place.{configuration_of}
@@ -47,18 +46,18 @@ use Rattle.tape_maker.specs.declared.planning.Plan.{Plan}
 
 -- what the array of prepared instructions holds
 pub rows-prepared : (held : FlowRows) {ops : List Op}
-    → Each (op_of (C1 (flow_of held)) (caps_of (flow_of held))) blank held.instructions held.count ops → Prepared (C1 (flow_of held)) (flow_of held) ops
+    → Each (op_of (C1 (flow_of held))) blank held.instructions held.count ops → Prepared (C1 (flow_of held)) (flow_of held) ops
 unfolding flow_of
 rows-prepared held e = record { each = λ i l. e.at i l }
 
--- the numbers that name a part fit a byte
+-- the numbers that count fit a byte
 pub rows-bytes : (held : FlowRows) → Legal (flow_of held) → AllFitBytes held.instructions held.count
 unfolding flow_of
 rows-bytes held legal i l =
     let flow = flow_of held in
     let is = get_or-map instruction_of (take held.count held.instructions) i (row_of stop)
     ∙ ap instruction_of (get_or-take held.count held.instructions i (row_of stop) l) in
-    legal-bytes (head flow) (record { tapes = legal.tapes; outputs = legal.outputs; variables = legal.variables; counters = legal.counters }) (length flow.instructions) legal.size.1
+    legal-bytes (head flow) (record { tapes = legal.tapes; outputs = legal.outputs; variables = legal.variables }) (length flow.instructions) legal.size.1
     (get_or held.instructions i (row_of stop))
     (subst (λ (x : Instruction). all (in_range (head flow)) (fields x) ≡ true) is (legal.ranges (suc i)))
     (subst (λ (x : Instruction). all (is_named (length flow.instructions)) (fields x) ≡ true) is (legal.targets (suc i)))

@@ -8,7 +8,6 @@ ghost use Rattle.search_table.specs.Inner.Passes.{blank};
 ghost use Rattle.tape_maker.specs.Inner.Plan.{AllFitBytes, Each, Planned};
 
 use configuration::{Op, Words, forms};
-use constants::caps;
 use flow::{Flow, Instruction};
 
 // What a search needs of a flow: its instructions, prepared; the width of its constants, C1 and C2; and the start.
@@ -26,15 +25,14 @@ fn prepare(
     instructions: [Instruction; Flow::MAX_INSTRUCTIONS],
     count: usize,
     lo: i32,
-    caps: [u32; Flow::COUNTERS],
 ) -> [Op; Flow::MAX_INSTRUCTIONS]
     requires { (count ≤ max_instructions) × AllFitBytes instructions count }
-    ensures { Each (op_of lo caps) blank instructions count result }
+    ensures { Each (op_of lo) blank instructions count result }
 {
     let mut ops = [Op::stop(); Flow::MAX_INSTRUCTIONS];
     let mut i = 0;
     while i < count {
-        ops[i] = forms::prepare(instructions[i], lo, caps);
+        ops[i] = forms::prepare(instructions[i], lo);
         i += 1;
     }
     ops
@@ -48,11 +46,10 @@ pub fn plan_of(flow: Flow) -> Plan
     let range = constants::range_of(flow);
     let lo = range.lo;
     let hi = range.hi;
-    let caps = caps::caps_of(flow);
     let instructions = flow.instructions;
     let count = flow.count;
     Plan {
-        ops: prepare(instructions, count, lo, caps),
+        ops: prepare(instructions, count, lo),
         w: constants::width(range),
         lo,
         hi,

@@ -1,4 +1,4 @@
-// The pieces of document 01, the text of no bytes (document 02, T-08), counters (T-10) and the merge of flows/, run and printed. Of a run: the end, the steps
+// The pieces of document 01, the text of no bytes (document 02, T-08) and the merge of flows/, run and printed. Of a run: the end, the steps
 // and the puts, then how often each exit of the first instructions was taken. Of a flow: its report. The stored output has what the
 // documents say.
 use tape_maker::{Cell, RunAnswer, RunEnd};
@@ -102,26 +102,6 @@ fn no_bytes() {
     test_show::report(tape_maker::report(b"", &mut no));
 }
 
-// Counters: a loop that is left when the counter reaches 1000, one in which it goes on past 1000, and one that does nothing but raise it; the report of
-// the first, and that of a counter compared with 0.
-fn counters() {
-    let mut numbers = [0u8; 1];
-    let mut values = [0i32; 1];
-    let thousand = b"flow,1,0,1,1\n1,up,1,2\n2,count,1,1000,1,3\n3,stop\n";
-    let on = b"flow,1,0,1,1\n1,up,1,2\n2,count,1,1000,1,1\n";
-    one_tape(thousand, 1000000, &[], &mut numbers, &mut values);
-    one_tape(on, 1000000, &[], &mut numbers, &mut values);
-    one_tape(
-        b"flow,1,0,1,1\n1,up,1,1\n",
-        1000000,
-        &[],
-        &mut numbers,
-        &mut values,
-    );
-    test_show::report_of(thousand);
-    test_show::report_of(b"flow,1,0,1,1\n1,count,1,0,2,2\n2,stop\n");
-}
-
 fn main() {
     flow_a(1000000, &[]);
     flow_a(1000000, &[5]);
@@ -148,7 +128,6 @@ fn main() {
     );
     one_tape(b"flow,1,0,1\n1,stop\n", 0, &[], &mut numbers, &mut values);
     no_bytes();
-    counters();
     reports();
     cells();
 }

@@ -42,9 +42,6 @@ fn print_kind(kind: Kind) {
         Kind::Under => print_word(b"under"),
         Kind::Nop => print_word(b"nop"),
         Kind::Stop => print_word(b"stop"),
-        Kind::Zero => print_word(b"zero"),
-        Kind::Up => print_word(b"up"),
-        Kind::Count => print_word(b"count"),
     }
 }
 
@@ -64,15 +61,11 @@ fn print_refusal(r: Refusal) {
     print(b"\n");
 }
 
-// The counters come last, and only if there are any.
-fn print_head(tapes: u8, outputs: u8, variables: u8, counters: u8) {
+fn print_head(tapes: u8, outputs: u8, variables: u8) {
     print(b" flow");
     print_number(tapes as u64);
     print_number(outputs as u64);
     print_number(variables as u64);
-    if 0 < counters {
-        print_number(counters as u64);
-    }
     print(b"\n");
 }
 
@@ -83,7 +76,7 @@ fn print_line(i: usize, x: Instruction) {
 }
 
 fn print_flow(f: Flow) {
-    print_head(f.tapes, f.outputs, f.variables, f.counters);
+    print_head(f.tapes, f.outputs, f.variables);
     for i in 0..Flow::MAX_INSTRUCTIONS {
         if i < f.count {
             let instructions = f.instructions;

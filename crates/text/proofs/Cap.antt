@@ -8,7 +8,7 @@ use native.Mathlib.Decide.{dec_le}
 use native.Mathlib.Omega.{arith}
 use lib.IntN.{ℤ}
 use Rattle.text.specs.declared.Number.TheVariants.{Value, Bad}
-use Rattle.text.specs.Inner.Capped.{cut_off, capped_number}
+use Rattle.text.specs.Inner.Capped.{capped, capped_number}
 
 pub test_cut : (test : ℕ → Bool) (out : Bool) (m n : ℕ) → ((k : ℕ) → m ≤ k → test k ≡ out) → test (min n m) ≡ test n
 test_cut test out m n beyond = by (dec_le n m)
@@ -27,7 +27,7 @@ unfolding capped_number
 number_bad none e = refl
 number_bad (some z) e = absurd (bad_no_value (sym e))
 
-pub number-value : (written : Option ℤ) (v : ℤ) → capped_number written ≡ Value v → (z : ℤ) × (written ≡ some z) × (v ≡ cut_off z)
+pub number-value : (written : Option ℤ) (v : ℤ) → capped_number written ≡ Value v → (z : ℤ) × (written ≡ some z) × (v ≡ capped z)
 unfolding capped_number
 number-value none v e = absurd (bad_no_value e)
 number-value (some z) v e = (z, refl, cc)

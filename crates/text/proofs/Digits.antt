@@ -19,7 +19,7 @@ use mir.Facts.{to_z-of_z}
 use Rattle.text.specs.declared.Number.{Number}
 use Rattle.text.specs.declared.Number.TheVariants.{Value, Bad}
 use Rattle.text.specs.Number.{is_digit, digits_after, natural, negative, numeral}
-use Rattle.text.specs.Inner.Capped.{cap, cut_off, capped_number}
+use Rattle.text.specs.Inner.Capped.{cap, capped, capped_number}
 use Rattle.text.proofs.Cap.{bad_no_value}
 
 -- the code's answer on a size
@@ -28,7 +28,7 @@ answer size = capped_number (map pos size)
 
 -- ---- a run of digits
 pub capped_so_far : (n : ℕ) (bs : List ℕ) → answer (digits_after (min n cap) bs) ≡ answer (digits_after n bs)
-unfolding digits_after capped_number cut_off
+unfolding digits_after capped_number capped
 capped_so_far n [] =
     let twice : min (min n cap) cap ≡ min n cap = omega arith in
     ap (λ (m : ℕ). Value (pos m)) twice
@@ -48,7 +48,7 @@ capped_so_far n (b ∷ bs) =
     by false e = refl
 
 pub digits-end : (s : List ℕ) (i n : ℕ) → length s ≤ i → n ≤ cap → answer (digits_after n (drop i s)) ≡ Value (pos n)
-unfolding digits_after capped_number cut_off
+unfolding digits_after capped_number capped
 digits-end s i n h l =
     let low : min n cap ≡ n = omega arith in
     rw (drop_of_length-le s h, low)
@@ -125,7 +125,7 @@ size_bad none e = refl
 size_bad (some n) e = absurd (bad_no_value (sym e))
 
 size-value : (size : Option ℕ) (v : ℤ) → answer size ≡ Value v → (n : ℕ) × (size ≡ some n) × (v ≡ pos (min n cap))
-unfolding capped_number cut_off
+unfolding capped_number capped
 size-value none v e = absurd (bad_no_value e)
 size-value (some n) v e = (n, refl, cc)
 
@@ -134,7 +134,7 @@ mag_negated zero h = omega arith
 mag_negated (suc n) h = omega arith
 
 negated_capped : (n : ℕ) → (min n cap ≡ 0 → ⊥) → Value (neg_ℤ (pos (min n cap))) ≡ capped_number (negative (some n))
-unfolding capped_number negative cut_off
+unfolding capped_number negative capped
 negated_capped zero h = absurd (h (omega arith))
 negated_capped (suc n) h =
     let less : min (suc n) cap ≡ suc (min n (cap - 1)) = omega arith in

@@ -1,8 +1,8 @@
 //! One call of the library and what the independent implementation says of it: the answer, and the later content of every row.
 
 use crate::documents::bound;
-use crate::documents::flow::{Flow, Instruction, Refusal};
-use crate::documents::interpreter::{self, End, Ran};
+use crate::documents::flow::{Flow, Refusal};
+use crate::documents::interpreter::{self, End};
 use crate::documents::reader;
 use crate::documents::sample::{faults as sample_faults, part, up_to, wanted};
 use crate::documents::search::Census;
@@ -44,8 +44,7 @@ pub struct RunCase {
     pub values: usize,
 }
 
-/// A run, and what it is by the implementation.
-pub fn run(rng: &mut Rng, text: &[u8], case: &RunCase) -> (Checked, Result<Ran, Refusal>) {
+pub fn run(rng: &mut Rng, text: &[u8], case: &RunCase) -> Checked {
     let mut bytes = Lent::of(rng, text);
     let mut records = Lent::of(rng, &case.records);
     let mut lengths = Lent::of(rng, &case.lengths);
@@ -65,10 +64,10 @@ pub fn run(rng: &mut Rng, text: &[u8], case: &RunCase) -> (Checked, Result<Ran, 
     let free = case.numbers.min(case.values);
     let ran = reader::read(text).and_then(|flow| interpreter::run(&flow, case.limit, &case.records, &case.lengths, free));
     let mut faults = vec![bytes.changed("text"), records.changed("records"), lengths.changed("lengths")];
-    let outcome = match &ran {
+    let outcome = match ran {
         Err(why) => {
             faults.extend([numbers.changed("numbers"), values.changed("values"), p.changed("p"), m.changed("m"), answer.changed("answer")]);
-            Err(*why)
+            Err(why)
         }
         Ok(ran) => {
             let (outputs, put): (Vec<u8>, Vec<i32>) = ran.puts.iter().copied().unzip();
@@ -83,7 +82,7 @@ pub fn run(rng: &mut Rng, text: &[u8], case: &RunCase) -> (Checked, Result<Ran, 
             Ok(name)
         }
     };
-    (checked(returned, outcome, faults), ran)
+    checked(returned, outcome, faults)
 }
 
 /// A text with what is known of it: the refusal, or the flow and its census, none if the configurations outnumber 65,536.
@@ -161,12 +160,10 @@ pub struct SampleCase {
     pub row: usize,
 }
 
-/// A sample that is given and judged right: its distance, the steps of its run up to and with the exit, how often they come by the `count`
-/// that they come by most often, and its records.
+/// A sample that is given and judged right: its distance, the steps of its run up to and with the exit, and its records.
 pub struct Judged {
     pub distance: u32,
     pub steps: u64,
-    pub counts: u32,
     pub records: Vec<i32>,
 }
 
@@ -210,11 +207,9 @@ pub fn sample(rng: &mut Rng, text: &[u8], known: &Known, cells: &mut Lent<Words>
                 let found = sample_faults(flow, case.instruction, case.exit, d, row.now(), &lengths);
                 if found.is_empty() {
                     let lengths: Vec<usize> = lengths[..flow.tapes].iter().map(|n| *n as usize).collect();
-                    let ran = up_to(flow, case.instruction, case.exit, d, records, &lengths);
-                    let steps = ran.as_ref().map_or(0, |ran| ran.steps);
-                    let counts = ran.map_or(0, |ran| most_counts(flow, &ran));
+                    let steps = up_to(flow, case.instruction, case.exit, d, records, &lengths).map_or(0, |ran| ran.steps);
                     faults.extend(handed_on(rng, text, row.now(), records, steps, lengths));
-                    judged = Some(Judged { distance: d, steps, counts, records: records.to_vec() });
+                    judged = Some(Judged { distance: d, steps, records: records.to_vec() });
                 }
                 faults.extend(found.into_iter().map(Some));
             }
@@ -226,13 +221,6 @@ pub fn sample(rng: &mut Rng, text: &[u8], known: &Known, cells: &mut Lent<Words>
     (checked, judged.filter(|_| right))
 }
 
-/// How often a run comes by the `count` that it comes by most often.
-fn most_counts(flow: &Flow, ran: &Ran) -> u32 {
-    let taken = ran.p.iter().zip(&ran.m).map(|(p, m)| p + m);
-    let counts = flow.instructions.iter().zip(taken).filter(|(x, _)| matches!(x, Instruction::Count { .. }));
-    counts.map(|(_, times)| times).max().unwrap_or(0)
-}
-
 /// A sample handed on with its T lengths: to the helper, for every tape, tape 0 and tape T + 1, and to a run of so many steps.
 fn handed_on(rng: &mut Rng, text: &[u8], row: &[i32], records: &[i32], steps: u64, lengths: Vec<usize>) -> Faults {
     let mut faults = Vec::new();
@@ -242,7 +230,7 @@ fn handed_on(rng: &mut Rng, text: &[u8], row: &[i32], records: &[i32], steps: u6
         faults.extend(asked.faults.into_iter().map(|fault| Some(format!("tape {number}: {fault}"))));
     }
     let case = RunCase { limit: steps, records: records.to_vec(), lengths, numbers: steps as usize, values: steps as usize };
-    faults.extend(run(rng, text, &case).0.faults.into_iter().map(|fault| Some(format!("its run: {fault}"))));
+    faults.extend(run(rng, text, &case).faults.into_iter().map(|fault| Some(format!("its run: {fault}"))));
     faults
 }
 

@@ -26,30 +26,6 @@ fn palette(rng: &mut Rng, variables: usize) -> Vec<i64> {
     constants
 }
 
-/// The numbers that the counters of a flow are compared with, a list for each counter: few different ones, mostly small, since a counter
-/// multiplies the configurations.
-fn limits(rng: &mut Rng) -> Vec<Vec<u64>> {
-    let limit = |rng: &mut Rng| match rng.below(40) {
-        0..=3 => 0,
-        4..=23 => rng.from(1, 3) as u64,
-        24..=35 => rng.from(1, 9) as u64,
-        36..=38 => rng.from(10, 40) as u64,
-        _ => *rng.pick(&[255, 256, 257, 511, 512, 999, 1000]),
-    };
-    (0..1 + rng.below(2)).map(|_| (0..1 + rng.below(3)).map(|_| limit(rng)).collect()).collect()
-}
-
-/// An instruction of a counter, that leads to `n`, or to `n` and `other`.
-fn counting(rng: &mut Rng, limits: &[Vec<u64>], n: usize, other: usize) -> Instruction {
-    let z = 1 + rng.below(limits.len());
-    let (p, m) = *rng.pick(&[(n, other), (other, n)]);
-    match rng.below(8) {
-        0 => Instruction::Zero { z, n },
-        1..=4 => Instruction::Up { z, n },
-        _ => Instruction::Count { z, c: *rng.pick(&limits[z - 1]), p, m },
-    }
-}
-
 struct Draw<'a> {
     rng: &'a mut Rng,
     tapes: usize,
@@ -57,7 +33,6 @@ struct Draw<'a> {
     variables: usize,
     count: usize,
     constants: Vec<i64>,
-    limits: Vec<Vec<u64>>,
 }
 
 impl Draw<'_> {
@@ -83,9 +58,6 @@ impl Draw<'_> {
     fn instruction(&mut self, i: usize) -> Instruction {
         let (u, v) = (self.variable(), self.variable());
         let (c, p, m) = (self.constant(), self.target(i), self.target(i));
-        if !self.limits.is_empty() && self.rng.percent(35) {
-            return counting(self.rng, &self.limits, p, m);
-        }
         match self.rng.below(50) {
             0..=14 => Instruction::Read { tape: 1 + self.rng.below(self.tapes), v, p, m },
             15..=18 if self.outputs > 0 => Instruction::Put { v, output: 1 + self.rng.below(self.outputs), n: p },
@@ -124,14 +96,12 @@ fn mixed(rng: &mut Rng) -> Flow {
         _ => 2 + rng.below(12),
     };
     let constants = palette(rng, variables);
-    let limits = if rng.percent(20) { limits(rng) } else { Vec::new() };
-    let counters = limits.len();
-    let mut draw = Draw { rng, tapes, outputs, variables, count, constants, limits };
+    let mut draw = Draw { rng, tapes, outputs, variables, count, constants };
     let mut instructions: Vec<Instruction> = (1..=count).map(|i| draw.instruction(i)).collect();
     if draw.rng.percent(80) {
         instructions[count - 1] = Instruction::Stop;
     }
-    Flow { tapes, outputs, variables, counters, instructions }
+    Flow { tapes, outputs, variables, instructions }
 }
 
 /// Reads, then comparisons in a chain: one exit of each leads to the next, the other to `stop`.
@@ -142,7 +112,7 @@ fn chain(rng: &mut Rng) -> Flow {
     let tests = 1 + rng.below(6);
     let count = reads + tests + 1;
     let constants = palette(rng, variables);
-    let mut draw = Draw { rng, tapes, outputs: 0, variables, count, constants, limits: Vec::new() };
+    let mut draw = Draw { rng, tapes, outputs: 0, variables, count, constants };
     let mut instructions = Vec::new();
     for i in 1..=reads + tests {
         let (u, v, c) = (draw.variable(), draw.variable(), draw.constant());
@@ -157,7 +127,7 @@ fn chain(rng: &mut Rng) -> Flow {
         });
     }
     instructions.push(Instruction::Stop);
-    Flow { tapes, outputs: 0, variables, counters: 0, instructions }
+    Flow { tapes, outputs: 0, variables, instructions }
 }
 
 /// Rounds of reads, each followed by comparisons that let one order of the variables pass, with equals, all above or below the constants.
@@ -189,7 +159,7 @@ fn orders(rng: &mut Rng) -> Flow {
             }
         }
     }
-    Flow { tapes, outputs: 0, variables, counters: 0, instructions: linked(instructions) }
+    Flow { tapes, outputs: 0, variables, instructions: linked(instructions) }
 }
 
 /// The instructions and `stop`; for a target so far 1 stands for the next instruction and 0 for `stop`.
@@ -236,7 +206,7 @@ fn placed(rng: &mut Rng) -> Flow {
             instructions.push(Instruction::Less { u: *rng.pick(&order), v: *rng.pick(&order), p: 1, m: 1 });
         }
     }
-    Flow { tapes: 1, outputs: 0, variables, counters: 0, instructions: linked(instructions) }
+    Flow { tapes: 1, outputs: 0, variables, instructions: linked(instructions) }
 }
 
 /// Constants far apart, set, copied and compared with the one variable that is read.
@@ -267,7 +237,7 @@ fn far_apart(rng: &mut Rng) -> Flow {
         });
     }
     instructions.push(Instruction::Stop);
-    Flow { tapes: 1, outputs: 0, variables, counters: 0, instructions }
+    Flow { tapes: 1, outputs: 0, variables, instructions }
 }
 
 /// Each record must lie between two earlier ones, and takes the place of one of them: samples need room.
@@ -291,11 +261,11 @@ fn squeeze(rng: &mut Rng) -> Flow {
         instructions.push(Instruction::Copy { u: 3, v: 1 + rng.below(2), n: i + 4 });
     }
     instructions.push(Instruction::Stop);
-    Flow { tapes, outputs: 0, variables: 3, counters: 0, instructions }
+    Flow { tapes, outputs: 0, variables: 3, instructions }
 }
 
-/// A number of several digits held by `set` and tests, with a record read for some numbers: long distances.
-fn digits(bases: &[usize], reads: usize) -> Flow {
+/// A counter of several digits held by `set` and tests, with a record read for some counts: long distances.
+pub fn counter(bases: &[usize], reads: usize) -> Flow {
     let mut instructions = Vec::new();
     let sizes: Vec<usize> = bases.iter().enumerate().map(|(v, b)| 2 * b - 1 + if v == 0 { reads.min(*b) } else { 0 }).collect();
     let stop = sizes.iter().sum::<usize>() + 2;
@@ -319,14 +289,14 @@ fn digits(bases: &[usize], reads: usize) -> Flow {
     }
     instructions.push(Instruction::Under { v: 1, c: 1, p: stop, m: stop });
     instructions.push(Instruction::Stop);
-    Flow { tapes: 1, outputs: 0, variables: bases.len(), counters: 0, instructions }
+    Flow { tapes: 1, outputs: 0, variables: bases.len(), instructions }
 }
 
-fn some_digits(rng: &mut Rng) -> Flow {
-    let count = 1 + rng.below(4);
-    let bases: Vec<usize> = (0..count).map(|_| 2 + rng.below(3)).collect();
+fn counters(rng: &mut Rng) -> Flow {
+    let digits = 1 + rng.below(4);
+    let bases: Vec<usize> = (0..digits).map(|_| 2 + rng.below(3)).collect();
     let reads = rng.below(bases[0] + 1);
-    digits(&bases, reads)
+    counter(&bases, reads)
 }
 
 /// Two reads with constants from 0 to 251 and n times `nop` before them: 65,535 + n configurations.
@@ -337,7 +307,7 @@ pub fn edge(n: usize) -> Flow {
     instructions.push(Instruction::Under { v: 1, c: 251, p: n + 4, m: n + 5 });
     instructions.push(Instruction::Nop { n: n + 5 });
     instructions.push(Instruction::Stop);
-    Flow { tapes: 1, outputs: 0, variables: 2, counters: 0, instructions }
+    Flow { tapes: 1, outputs: 0, variables: 2, instructions }
 }
 
 /// One read, with all 20,001 patterns that one variable can have: 65,535 + n configurations. They are 1, 20,001, 20,001, 10,000 - c, and at
@@ -351,7 +321,7 @@ pub fn edge_of_one(n: i64) -> Flow {
         Instruction::Over { c: 9999, v: 1, p: 5, m: 5 },
         Instruction::Stop,
     ];
-    Flow { tapes: 1, outputs: 0, variables: 1, counters: 0, instructions }
+    Flow { tapes: 1, outputs: 0, variables: 1, instructions }
 }
 
 /// Two reads, the first record above 9999: 65,535 + n configurations. They are 1, 20,001, 1, 20,003, 10,000 + c, and at the end 20,003 and
@@ -366,7 +336,7 @@ pub fn edge_of_two(n: i64) -> Flow {
         Instruction::Under { v: 2, c: -9999, p: 6, m: 6 },
         Instruction::Stop,
     ];
-    Flow { tapes: 2, outputs: 0, variables: 2, counters: 0, instructions }
+    Flow { tapes: 2, outputs: 0, variables: 2, instructions }
 }
 
 /// Four reads, each record farther out than the one before, above 9999 or below -9999, and n + 2 times `nop` before them: 65,535 + n
@@ -386,13 +356,13 @@ pub fn edge_of_four(n: usize, above: bool) -> Flow {
         });
     }
     instructions.extend([Instruction::Stop, Instruction::Set { c: if above { -6376 } else { 6376 }, v: 1, n: stop }]);
-    Flow { tapes: 1, outputs: 0, variables: 4, counters: 0, instructions }
+    Flow { tapes: 1, outputs: 0, variables: 4, instructions }
 }
 
-/// A number of four digits, then a record that must lie beyond 9999 or -9999: its bound, a constant and the distance, passes 16 bits. The
+/// A counter of four digits, then a record that must lie beyond 9999 or -9999: its bound, a constant and the distance, passes 16 bits. The
 /// distance is 54, 35, 27 and 27 comparisons in a round of each digit, 392, 49, 7 and 1 rounds, and two exits more: 23,101.
 pub fn late(above: bool) -> Flow {
-    let mut flow = digits(&[10, 8, 7, 7], 0);
+    let mut flow = counter(&[10, 8, 7, 7], 0);
     let i = flow.instructions.len() - 1;
     flow.instructions.truncate(i - 1);
     flow.instructions.push(Instruction::Read { tape: 1, v: 1, p: i + 1, m: i + 2 });
@@ -428,7 +398,7 @@ fn of_one(rng: &mut Rng) -> Flow {
     let mut ends = if rng.percent(50) { vec![lo, hi] } else { vec![hi, lo] };
     let mut constants = vec![lo, lo + 1, hi - 1, hi, rng.from(lo, hi), rng.from(lo, hi)];
     constants.extend(rng.pick(&ENDS).iter().filter(|c| (lo..=hi).contains(c)));
-    let mut draw = Draw { rng, tapes, outputs: 1, variables: 1, count, constants, limits: Vec::new() };
+    let mut draw = Draw { rng, tapes, outputs: 1, variables: 1, count, constants };
     let mut instructions = vec![Instruction::Read { tape: 1, v: 1, p: 2, m: draw.target(1) }];
     for i in 2..count {
         let (c, p, m) = (draw.constant(), draw.target(i), draw.target(i));
@@ -441,7 +411,7 @@ fn of_one(rng: &mut Rng) -> Flow {
         });
     }
     instructions.push(Instruction::Stop);
-    Flow { tapes, outputs: 1, variables: 1, counters: 0, instructions }
+    Flow { tapes, outputs: 1, variables: 1, instructions }
 }
 
 /// Reads to two variables or more, each with a filter that leaves few patterns, then comparisons.
@@ -481,24 +451,22 @@ fn filtered(rng: &mut Rng) -> Flow {
         });
     }
     instructions.push(Instruction::Stop);
-    Flow { tapes, outputs: 0, variables, counters: 0, instructions }
+    Flow { tapes, outputs: 0, variables, instructions }
 }
 
-/// So many instructions of all kinds, with w numbers from C1 to C2, and with counters of which these are the largest c. A single instruction
-/// has one constant, so w is then at most 10,000. Where there are too few instructions for all these numbers, some are left out.
-fn of_width(rng: &mut Rng, tapes: usize, variables: usize, count: usize, w: i64, largest: &[u64]) -> Flow {
+/// So many instructions of all kinds, with w numbers from C1 to C2. A single instruction has one constant, so w is then at most 10,000.
+fn of_width(rng: &mut Rng, tapes: usize, variables: usize, count: usize, w: i64) -> Flow {
     let (mut lo, mut hi) = about_zero(rng, w);
     if count == 1 {
         (lo, hi) = *rng.pick(&[(1 - w, 0), (0, w - 1)]);
     }
     let outputs = rng.below(4);
     let constants = vec![lo, hi, 0, rng.from(lo, hi)];
-    let limits = largest.iter().map(|&c| vec![c, 0, rng.from(0, c as i64) as u64]).collect();
-    let mut draw = Draw { rng, tapes, outputs, variables, count, constants, limits };
+    let mut draw = Draw { rng, tapes, outputs, variables, count, constants };
     let mut instructions: Vec<Instruction> = (1..=count).map(|i| draw.instruction(i)).collect();
-    let mut free: Vec<usize> = (0..count).collect();
-    for c in [lo, hi].into_iter().filter(|c| *c != 0) {
-        let Some(at) = take(draw.rng, &mut free) else { break };
+    let first = draw.rng.below(count);
+    let ends = [(first, lo), ((first + 1 + draw.rng.below(count.max(2) - 1)) % count, hi)];
+    for (at, c) in ends.into_iter().filter(|(_, c)| *c != 0) {
         let (v, p, m) = (draw.variable(), draw.target(at + 1), draw.target(at + 1));
         instructions[at] = match draw.rng.below(3) {
             0 => Instruction::Set { c, v, n: p },
@@ -506,12 +474,7 @@ fn of_width(rng: &mut Rng, tapes: usize, variables: usize, count: usize, w: i64,
             _ => Instruction::Under { v, c, p, m },
         };
     }
-    for (z, &c) in (1..).zip(largest).filter(|(_, c)| **c != 0) {
-        let Some(at) = take(draw.rng, &mut free) else { break };
-        let (p, m) = (draw.target(at + 1), draw.target(at + 1));
-        instructions[at] = Instruction::Count { z, c, p, m };
-    }
-    Flow { tapes, outputs, variables, counters: largest.len(), instructions }
+    Flow { tapes, outputs, variables, instructions }
 }
 
 /// Tapes, variables, instructions and w of bounds past 65,536 that would not be past it if they were kept in 32 bits.
@@ -527,64 +490,8 @@ const WRAPPING: [(usize, usize, usize, i64); 9] = [
     (1, 4, 1, 9814),
 ];
 
-/// The same with counters: tapes, instructions, w and the largest c of two counters, with two variables.
-const WRAPPING_COUNTED: [(usize, usize, i64, [u64; 2]); 10] = [
-    (1, 5, 4094, [3, 31]),
-    (1, 8, 1022, [255, 0]),
-    (1, 4, 16_382, [31, 0]),
-    (1, 48, 4094, [15, 7]),
-    (2, 32, 8190, [15, 7]),
-    (2, 16, 4094, [0, 127]),
-    (2, 5, 8190, [15, 15]),
-    (3, 64, 1022, [1, 7]),
-    (3, 4, 4094, [255, 0]),
-    (3, 48, 8190, [7, 3]),
-];
-
-/// A legal flow with counters for its bound (document 02, T-10): 65,536, about 65,536 by a largest c, past it by far, or any.
-fn bounded_counted(rng: &mut Rng) -> Flow {
-    let (tapes, variables) = (1 + rng.below(3), 1 + rng.below(2));
-    let count = if rng.percent(80) { 4 + rng.below(6) } else { 4 + rng.below(61) };
-    let w = rng.from(1, if variables == 1 { 40 } else { 6 });
-    match rng.below(10) {
-        0..=2 => {
-            // All factors are powers of 2; one variable has w + 2 patterns.
-            let (instructions, patterns) = (2 + rng.below(3), 2 + rng.below(3));
-            let powers = 16 - tapes - instructions - patterns;
-            let first = rng.from((powers as i64 - 9).max(0), powers.min(9) as i64) as usize;
-            of_width(rng, tapes, 1, 1 << instructions, (1 << patterns) - 2, &[(1 << first) - 1, (1 << (powers - first)) - 1])
-        }
-        3..=6 => {
-            let without = count as u64 * (1 << tapes) * bound::patterns(variables, w as u128) as u64;
-            let factor = (65_536 / without).max(1);
-            let other = if rng.percent(50) { 1 } else { 1 + rng.below(factor.min(1001) as usize) as u64 };
-            let c = (factor / other) as i64 - 1 + rng.from(-1, 1);
-            let mut largest = vec![c.clamp(0, 1000) as u64];
-            if other > 1 || rng.percent(30) {
-                largest.insert(rng.below(2), other - 1);
-            }
-            of_width(rng, tapes, variables, count, w, &largest)
-        }
-        7 => {
-            let (tapes, count, w, largest) = *rng.pick(&WRAPPING_COUNTED);
-            of_width(rng, tapes, 2, count, w, &largest)
-        }
-        8 => {
-            let (variables, w, counters) = (1 + rng.below(4), rng.from(1, 19_999), 1 + rng.below(2));
-            of_width(rng, tapes, variables, count, w, &[1000, 1000][..counters])
-        }
-        _ => {
-            let largest: Vec<u64> = (0..1 + rng.below(2)).map(|_| *rng.pick(&[0, 1, 2, 9, 99, 999, 1000])).collect();
-            of_width(rng, tapes, variables, count, w, &largest)
-        }
-    }
-}
-
 /// A legal flow for its bound (document 02, T-01): 65,536, about 65,536, past it by far, or any.
 pub fn bounded(rng: &mut Rng) -> Flow {
-    if rng.percent(33) {
-        return bounded_counted(rng);
-    }
     let (tapes, variables) = (1 + rng.below(3), 1 + rng.below(4));
     let count = if rng.percent(70) { 1 + rng.below(8) } else { 1 + rng.below(64) };
     let most = if count == 1 { 10_000 } else { 19_999 };
@@ -592,25 +499,25 @@ pub fn bounded(rng: &mut Rng) -> Flow {
         0..=2 => {
             // One variable has w + 2 patterns, a power of 2, and then the count is one.
             let power = rng.from(10 - tapes as i64, if tapes == 3 { 13 } else { 15 - tapes as i64 });
-            of_width(rng, tapes, 1, 1 << (16 - tapes as i64 - power), (1 << power) - 2, &[])
+            of_width(rng, tapes, 1, 1 << (16 - tapes as i64 - power), (1 << power) - 2)
         }
         3..=6 => {
             let given = |w: &i64| count as u128 * (1 << tapes) * bound::patterns(variables, *w as u128) <= 65_536;
             let last = (1..=most).take_while(given).last().unwrap_or(1);
             let w = (last + rng.from(-1, 2)).clamp(1, most);
-            of_width(rng, tapes, variables, count, w, &[])
+            of_width(rng, tapes, variables, count, w)
         }
         7 => {
             let (tapes, variables, count, w) = *rng.pick(&WRAPPING);
-            of_width(rng, tapes, variables, count, w, &[])
+            of_width(rng, tapes, variables, count, w)
         }
         8 => {
             let w = rng.from(1, most);
-            of_width(rng, tapes, variables, count, w, &[])
+            of_width(rng, tapes, variables, count, w)
         }
         _ => {
             let w = rng.from(1, 40);
-            of_width(rng, tapes, variables, count, w, &[])
+            of_width(rng, tapes, variables, count, w)
         }
     }
 }
@@ -618,125 +525,19 @@ pub fn bounded(rng: &mut Rng) -> Flow {
 /// A legal flow with constants far apart (document 02, T-09), of some thousand configurations up to a bit past 65,536.
 pub fn wide(rng: &mut Rng) -> Flow {
     let n = if rng.percent(50) { rng.from(-2, 2) } else { rng.from(-5000, 3000) };
-    let flow = match rng.below(20) {
+    match rng.below(20) {
         0 | 1 => edge_of_one(n),
         2 | 3 => edge_of_two(n),
         4 => edge_of_four(rng.below(4), rng.percent(50)),
         5..=10 => filtered(rng),
         _ => of_one(rng),
-    };
-    match rng.below(6) {
-        0 => behind(flow, 1, *rng.pick(&[1, 2, 511, 999, 1000])),
-        1 => behind(behind(flow, 1, *rng.pick(&[1, 255, 256, 1000])), 2, *rng.pick(&[1, 3, 512, 1000])),
-        _ => flow,
     }
 }
 
-/// The flow behind a loop that is left when a counter reaches c: 2c configurations more, and each distance greater by c.
-fn behind(mut flow: Flow, z: usize, c: u64) -> Flow {
-    flow.counters = flow.counters.max(z);
-    flow.instructions.iter_mut().for_each(|x| x.redirect(|target| target + 2));
-    flow.instructions.splice(0..0, [Instruction::Up { z, n: 2 }, Instruction::Count { z, c, p: 1, m: 3 }]);
-    flow
-}
-
-/// A loop of 527 rounds in a loop of 62, and n times `nop` before them: 65,535 + n configurations. A loop of a rounds in one of b has 2ab,
-/// 3b and at the end 1. The last exit is taken after 62 times 528 exits.
-pub fn edge_of_counters(n: usize) -> Flow {
-    let mut instructions: Vec<Instruction> = (0..n).map(|i| Instruction::Nop { n: i + 2 }).collect();
-    instructions.extend([
-        Instruction::Up { z: 2, n: n + 2 },
-        Instruction::Count { z: 2, c: 527, p: n + 1, m: n + 3 },
-        Instruction::Zero { z: 2, n: n + 4 },
-        Instruction::Up { z: 1, n: n + 5 },
-        Instruction::Count { z: 1, c: 62, p: n + 1, m: n + 6 },
-        Instruction::Stop,
-    ]);
-    Flow { tapes: 1, outputs: 0, variables: 1, counters: 2, instructions }
-}
-
-/// A loop that is left when a counter reaches c, with reads and comparisons in it, and often a loop of another counter around it; then
-/// counts with any c. Where records are read the counters are small.
-fn looped(rng: &mut Rng) -> Flow {
-    let (tapes, variables, counters) = (1 + rng.below(2), 1 + rng.below(2), 1 + rng.below(2));
-    let around = counters == 2 && rng.percent(70);
-    let inside = rng.below(4);
-    let most = match (inside, around) {
-        (0, false) => 1000,
-        (0, true) => 60,
-        (_, false) => 20,
-        (_, true) => 5,
-    };
-    let c: Vec<i64> = (0..2).map(|_| if rng.percent(60) { rng.from(1, 4) } else { rng.from(1, most) }).collect();
-    let inner = 1 + rng.below(counters);
-    let outer = 3 - inner;
-    let mut instructions: Vec<Instruction> = Vec::new();
-    for i in 1..=inside {
-        let (v, m) = (1 + rng.below(variables), i + 1);
-        instructions.push(match rng.below(6) {
-            0 => Instruction::Over { c: rng.from(-1, 1), v, p: i + 1, m: *rng.pick(&[1, m]) },
-            1 => Instruction::Less { u: 1, v, p: i + 1, m },
-            2 => Instruction::Up { z: inner, n: m },
-            3 if rng.percent(30) => Instruction::Zero { z: inner, n: m },
-            _ => Instruction::Read { tape: 1 + rng.below(tapes), v, p: i + 1, m },
-        });
-    }
-    let next = |instructions: &Vec<Instruction>| instructions.len() + 2;
-    instructions.push(Instruction::Up { z: inner, n: inside + 2 });
-    instructions.push(Instruction::Count { z: inner, c: c[0] as u64, p: 1, m: inside + 3 });
-    if around {
-        if rng.percent(80) {
-            instructions.push(Instruction::Zero { z: inner, n: next(&instructions) });
-        }
-        instructions.push(Instruction::Up { z: outer, n: next(&instructions) });
-        instructions.push(Instruction::Count { z: outer, c: c[1] as u64, p: 1, m: next(&instructions) });
-    }
-    for _ in 0..rng.below(4) {
-        let z = 1 + rng.below(counters);
-        let about = if z == inner { c[0] } else { c[1] };
-        let limit = (about + rng.from(-2, 2)).clamp(0, 1000) as u64;
-        let on = next(&instructions);
-        let back = *rng.pick(&[1, on, on, on]);
-        let (p, m) = *rng.pick(&[(on, on), (on, back), (back, on)]);
-        instructions.push(if rng.percent(80) { Instruction::Count { z, c: limit, p, m } } else { Instruction::Up { z, n: on } });
-    }
-    instructions.push(Instruction::Stop);
-    Flow { tapes, outputs: 0, variables, counters, instructions }
-}
-
-/// A flow that raises a counter for ever: by steps up alone, or by some in a row and a count after them.
-pub fn far(rng: &mut Rng) -> Flow {
-    let counters = 1 + rng.below(2);
-    let z = 1 + rng.below(counters);
-    let first = rng.below(3);
-    let mut instructions: Vec<Instruction> = (0..first).map(|i| counting(rng, &[vec![0, 1]], i + 2, i + 2)).collect();
-    let start = first + 1;
-    if rng.percent(30) {
-        instructions.push(Instruction::Up { z, n: start });
-        return Flow { tapes: 1, outputs: 0, variables: 1, counters, instructions };
-    }
-    let ups = *rng.pick(&[1, 2, 3, 7, 60]);
-    instructions.extend((0..ups).map(|i| Instruction::Up { z, n: start + i + 1 }));
-    let last = start + ups;
-    let c = *rng.pick(&[0, 1, 2, 255, 999, 1000]);
-    instructions.push(match rng.below(4) {
-        // The other counter is set to 0, or raised, where the first has not passed its c.
-        0 if counters == 2 => Instruction::Count { z, c, p: last + 1, m: start },
-        _ => Instruction::Count { z, c, p: start, m: start },
-    });
-    instructions.push(*rng.pick(&[Instruction::Zero { z: counters, n: start }, Instruction::Up { z: 1, n: start }, Instruction::Stop]));
-    Flow { tapes: 1, outputs: 0, variables: 1, counters, instructions }
-}
-
-/// An instruction with one way on, to `n`. If it is idle, it changes no variable, and no counter that is compared.
+/// An instruction with one way on, to `n`. If it is idle, it changes no variable.
 fn plain(rng: &mut Rng, flow: &Flow, idle: bool, n: usize) -> Instruction {
     let (u, v) = (1 + rng.below(flow.variables), 1 + rng.below(flow.variables));
     let (lo, hi) = flow.bounds();
-    let z = 1 + rng.below(flow.counters.max(1));
-    // All values of a counter that is not compared are one.
-    if flow.counters > 0 && rng.percent(30) && (!idle || flow.largest()[z - 1] == 0) {
-        return if rng.percent(75) { Instruction::Up { z, n } } else { Instruction::Zero { z, n } };
-    }
     match rng.below(10) {
         0 | 1 if flow.outputs > 0 => Instruction::Put { v, output: 1 + rng.below(flow.outputs), n },
         2 | 3 if idle => Instruction::Copy { u: v, v, n },
@@ -746,36 +547,11 @@ fn plain(rng: &mut Rng, flow: &Flow, idle: bool, n: usize) -> Instruction {
     }
 }
 
-/// Instructions with one way on put into a flow (document 02, T-04). If they are idle, each distance stays. And the number that each
-/// instruction now has.
-pub fn padded(rng: &mut Rng, flow: Flow, idle: bool) -> (Flow, Vec<usize>) {
-    let more = if rng.percent(30) { 64 } else { 1 + rng.below(12) };
-    with_more(rng, flow, more, |rng, flow, there| plain(rng, flow, idle, there))
-}
-
-/// Counters for a flow, and instructions with them put into it (document 02, T-10). A `count` leads on, or to any instruction.
-fn counted(rng: &mut Rng, mut flow: Flow) -> Flow {
-    let limits = limits(rng);
-    flow.counters = limits.len();
-    let more = 2 + rng.below(7);
-    let any = |rng: &mut Rng, flow: &Flow| 1 + rng.below(flow.instructions.len());
-    with_more(rng, flow, more, |rng, flow, there| {
-        let other = any(rng, flow);
-        counting(rng, &limits, there, other)
-    })
-    .0
-}
-
-/// At most so many instructions put into a flow, each made for the instruction that it leads to: before the first, or in a way from one to
-/// another, which other ways to the same instruction may share; they stand anywhere. And the number that each instruction now has.
-fn with_more<F: FnMut(&mut Rng, &Flow, usize) -> Instruction>(
-    rng: &mut Rng,
-    mut flow: Flow,
-    more: usize,
-    mut made: F,
-) -> (Flow, Vec<usize>) {
+/// Instructions with one way on put into a flow (document 02, T-04): before the first, or in a way from one to another, which other ways to
+/// the same instruction may share; they stand anywhere. If they are idle, each distance stays. And the number that each instruction now has.
+pub fn padded(rng: &mut Rng, mut flow: Flow, idle: bool) -> (Flow, Vec<usize>) {
     let count = flow.instructions.len();
-    let more = more.min(64 - count);
+    let more = (if rng.percent(30) { 64 } else { 1 + rng.below(12) }).min(64 - count);
     // Names of the instructions in the order of their lines; a new one has the next name.
     let mut order: Vec<usize> = (1..=count).collect();
     for new in count + 1..=count + more {
@@ -795,8 +571,7 @@ fn with_more<F: FnMut(&mut Rng, &Flow, usize) -> Instruction>(
                 }
             });
         }
-        let instruction = made(rng, &flow, there);
-        flow.instructions.push(instruction);
+        flow.instructions.push(plain(rng, &flow, idle, there));
     }
     let numbers: Vec<usize> = (1..=count + more).map(|name| 1 + order.iter().position(|x| *x == name).unwrap_or(0)).collect();
     flow.instructions.iter_mut().for_each(|x| x.redirect(|target| numbers[target - 1]));
@@ -826,23 +601,21 @@ fn detour(rng: &mut Rng) -> Flow {
         });
     }
     instructions.push(Instruction::Stop);
-    Flow { tapes: 1, outputs: 0, variables: 1, counters: 0, instructions }
+    Flow { tapes: 1, outputs: 0, variables: 1, instructions }
 }
 
 /// A legal flow.
 pub fn flow(rng: &mut Rng) -> Flow {
-    let flow = match rng.below(22) {
+    let flow = match rng.below(20) {
         0..=3 => chain(rng),
         4 | 5 => squeeze(rng),
         6 => orders(rng),
-        7 => some_digits(rng),
+        7 => counters(rng),
         8 => far_apart(rng),
         9 => placed(rng),
         10 => detour(rng),
-        11 | 12 => looped(rng),
         _ => mixed(rng),
     };
-    let flow = if flow.counters == 0 && rng.percent(18) { counted(rng, flow) } else { flow };
     match rng.below(4) {
         0 => padded(rng, flow, false).0,
         _ => flow,
@@ -877,30 +650,15 @@ const CONSTANTS: [&str; 26] = [
     "10000", "10000", "10001", "99990", "75535", "-55537", "4294977295", "-4294957297", "18446744073709561615",
 ];
 
-/// The c of `count` in and out of its range, and badly written; some at the edge come more than once.
-#[rustfmt::skip]
-const COUNTS: [&str; 32] = [
-    "0", "1", "999", "1000", "1000", "1001", "1001", "1001", "1001", "1002", "1023", "1024", "9999", "10000", "65536", "66536",
-    "4294967296", "4294968296", "18446744073709552616", "-0", "-0", "-0", "-0", "-1", "-1", "-1000", "-1001", "00", "01", "+1", "", "-",
-];
-
-/// The fields that may follow V on line 1.
-#[rustfmt::skip]
-const AFTER_V: [&[&str]; 20] = [
-    &[], &[], &[], &[], &[], &["0"], &["0"], &["1"], &["2"], &["3"], &["3"], &["257"], &["-1"], &["-0"], &["01"], &[""], &["1", "1"],
-    &["2", ""], &["x", "-1"], &["1", "1", "1"],
-];
-
-#[rustfmt::skip]
-const WORDS: [&str; 31] = [
+const WORDS: [&str; 24] = [
     "read", "put", "copy", "set", "less", "over", "under", "nop", "stop", "flow", "", "Read", "READ", "rea", "reads", "read ", " nop",
-    "stop\r", "stop\0", "stopp", "sto", "const", "\u{e9}", "1", "zero", "up", "count", "Up", "zer", "counts", "down",
+    "stop\r", "stop\0", "stopp", "sto", "const", "\u{e9}", "1",
 ];
 
 /// Texts that could be taken for the empty one.
 const NEARLY: [&str; 12] = ["\n", "\n\n", "\r\n", " \n", ",\n", "\0\n", "\0", "\r", " ", ",", "f", "flow,1,0,1\n"];
 
-const BYTES: &[u8] = b"0123456789,,,-\n\n+ \t\r\0aflowreadputcopysetlessoverundernopstopzerocount\xff\x80F.;";
+const BYTES: &[u8] = b"0123456789,,,-\n\n+ \t\r\0aflowreadputcopysetlessoverundernopstop\xff\x80F.;";
 
 fn byte_edit(rng: &mut Rng, text: &mut Vec<u8>) {
     let byte = *rng.pick(BYTES);
@@ -933,8 +691,7 @@ fn field_edit(rng: &mut Rng, line: &mut Vec<u8>) {
     *line = fields.join(&b',');
 }
 
-/// The fields after a word, so that a number can be put at the edge of its range: A tape, Y output, v variable, c constant, z counter, k what
-/// it is compared with, N target.
+/// The fields after a word, so that a number can be put at the edge of its range: A tape, Y output, v variable, c constant, N target.
 fn shape(word: &[u8]) -> Option<&'static str> {
     Some(match word {
         b"read" => "AvNN",
@@ -946,9 +703,6 @@ fn shape(word: &[u8]) -> Option<&'static str> {
         b"under" => "vcNN",
         b"nop" => "N",
         b"stop" => "",
-        b"zero" => "zN",
-        b"up" => "zN",
-        b"count" => "zkNN",
         _ => return None,
     })
 }
@@ -964,16 +718,13 @@ fn aimed_edit(rng: &mut Rng, flow: &Flow, lines: &mut [Vec<u8>]) {
     let number = match (at, i) {
         (0, 0) | (1.., 1) => return,
         (0, 1 | 2) => about(rng, 3),
-        (0, 3) => about(rng, 4),
-        (0, _) => about(rng, 2),
+        (0, _) => about(rng, 4),
         (_, 0) => about(rng, at),
         _ => match letters.as_bytes().get(i - 2) {
             Some(b'A') => about(rng, flow.tapes),
             Some(b'Y') => about(rng, flow.outputs),
             Some(b'v') => about(rng, flow.variables),
             Some(b'c') => rng.pick(&CONSTANTS).to_string(),
-            Some(b'z') => about(rng, flow.counters),
-            Some(b'k') => rng.pick(&COUNTS).to_string(),
             _ => about(rng, count),
         },
     };
@@ -981,38 +732,9 @@ fn aimed_edit(rng: &mut Rng, flow: &Flow, lines: &mut [Vec<u8>]) {
     lines[at] = fields.join(&b',');
 }
 
-/// A legal flow, often with counters, with other fields after V on line 1, or with a counter's number or a c at the edge of its range.
-fn counter_edit(rng: &mut Rng, flow: Flow) -> Vec<u8> {
-    let flow = if flow.counters == 0 && rng.percent(80) { counted(rng, flow) } else { flow };
-    let mut lines: Vec<Vec<u8>> = flow.text().split('\n').map(|l| l.as_bytes().to_vec()).collect();
-    let of_counter = |line: &[u8]| line.split(|b| *b == b',').nth(1).and_then(shape).is_some_and(|letters| letters.starts_with('z'));
-    let at: Vec<usize> = (1..lines.len()).filter(|i| of_counter(&lines[*i])).collect();
-    if at.is_empty() || rng.percent(40) {
-        let after = *rng.pick(&AFTER_V);
-        let first: Vec<&[u8]> = lines[0].split(|b| *b == b',').take(4).chain(after.iter().map(|field| field.as_bytes())).collect();
-        lines[0] = first.join(&b',');
-        return lines.join(&10u8);
-    }
-    let at = *rng.pick(&at);
-    let mut fields: Vec<Vec<u8>> = lines[at].split(|b| *b == b',').map(|f| f.to_vec()).collect();
-    if fields[1] == b"count" && rng.percent(70) {
-        fields[3] = rng.pick(&COUNTS).as_bytes().to_vec();
-    } else {
-        fields[2] = rng.pick(&["0", "1", "2", "3", "-1", "01", ""]).as_bytes().to_vec();
-    }
-    if rng.percent(10) {
-        fields[0] = (flow.instructions.len() + 1).to_string().into_bytes();
-    }
-    lines[at] = fields.join(&b',');
-    lines.join(&10u8)
-}
-
 /// A legal flow with one aimed edit or two.
 fn aimed(rng: &mut Rng) -> Vec<u8> {
     let flow = flow(rng);
-    if rng.percent(20) {
-        return counter_edit(rng, flow);
-    }
     let mut lines: Vec<Vec<u8>> = flow.text().split('\n').map(|l| l.as_bytes().to_vec()).collect();
     for _ in 0..1 + rng.below(2) {
         aimed_edit(rng, &flow, &mut lines);
@@ -1053,11 +775,10 @@ fn put_faults(rng: &mut Rng, faults: &[Fault], fields: &mut Vec<Vec<u8>>, word: 
                 others.append(&mut own);
                 rewrite(rng, fields, &mut others, &BAD);
             }
-            Fault::Count => match rng.below(5) {
+            Fault::Count => match rng.below(4) {
                 0 => fields.truncate(1 + rng.below(fields.len() - 1)),
                 1 => drop(fields.pop()),
                 2 => fields.push(Vec::new()),
-                3 => fields.extend([b"1".to_vec(), b"1".to_vec()]),
                 _ => fields.insert(word + 1, rng.pick(&NUMBERS).as_bytes().to_vec()),
             },
             Fault::Word if word == fields.len() => {}

@@ -2,11 +2,11 @@
 //!
 //!     outside [SEED [ROUNDS]]
 //!
-//! The implementation (documents/) is written from documents 01, 02 (T-01, T-02, T-04, T-05, T-08, T-09, T-10) and 000. Some of the texts go
-//! to the programs `report` and `bound` too, if their paths are in REPORT and BOUND. Prints the seed, the cases by sort and outcome, those of
-//! the empty text, some with wide constants, some where exits are not steps and some with counters again by themselves, the reports by the
-//! pairs of variables that they compare, and `N cases, M differences`. A difference is printed with its case in full, and the status is then
-//! 1; it is 1 too if an outcome that documents 01 and 02 know, or one of those pairs, was never met.
+//! The implementation (documents/) is written from documents 01, 02 (T-01, T-02, T-04, T-05, T-08, T-09) and 000. Some of the texts go to the
+//! programs `report` and `bound` too, if their paths are in REPORT and BOUND. Prints the seed, the cases by sort and outcome, those of the
+//! empty text, some with wide constants and some where exits are not steps again by themselves, the reports by the pairs of variables that
+//! they compare, and `N cases, M differences`. A difference is printed with its case in full, and the status is then 1; it is 1 too if an
+//! outcome that documents 01 and 02 know, or one of those pairs, was never met.
 
 mod cases;
 mod documents;
@@ -17,8 +17,7 @@ mod program;
 mod rng;
 
 use cases::{Checked, Judged, Known, RunCase, SampleCase, TapeCase};
-use documents::flow::{Flow, Instruction, Refusal};
-use documents::interpreter::Ran;
+use documents::flow::{Flow, Refusal};
 use documents::search::{Census, Pair};
 use documents::{bound, pieces, reader, sample, search};
 use ffi::Words;
@@ -74,45 +73,6 @@ const OF_EXITS: [(&str, &[&str]); 2] = [
     ("sample", &["more steps than exits", "more steps than the fewest", "a row shorter than the steps"]),
 ];
 
-/// What must be met with counters, by document 02 (T-10). A run's counter is what the implementation has for it. A loop is left by a `count`
-/// that the sample's run has come by before.
-const OF_COUNTERS: [(&str, &[&str]); 5] = [
-    (
-        "text",
-        &[
-            "legal",
-            "refused 5 for the number of a counter",
-            "refused 5 for a counter without Z",
-            "refused 5 for c",
-            "refused 5 for 1001 as c",
-            "refused 5 for Z",
-            "refused 6, where its own number gives 5",
-            "refused 7",
-            "refused 14 for six fields on line 1",
-            "refused 14 for an instruction",
-            "refused 15 for c with a minus",
-            "refused 15 for -0 as c",
-            "refused 15 for Z",
-        ],
-    ),
-    ("run", &["a counter past 1000", "a counter past 65,536, with counts", "a counter of 980,000 or more"]),
-    (
-        "report",
-        &[
-            "a distance of p",
-            "a distance of m",
-            "a distance of 1000 or more",
-            "p none, m not",
-            "m none, p not",
-            "p and m none",
-            "refused 9",
-            "more configurations than the bound without the counters",
-        ],
-    ),
-    ("sample", &["through a loop", "through a loop of 100 rounds or more", "with records, through a loop", "none", "refused 10"]),
-    ("bound", &["a number, with a factor", "65,536, with a factor", "a number, with two factors", "over by the counters alone"]),
-];
-
 /// The pairs that must be compared in reports that are given, by document 02 (T-05): the nine pairs of positions, the three like ones in
 /// each order.
 fn of_pairs() -> impl Iterator<Item = Pair> {
@@ -130,9 +90,8 @@ fn named(&(a, b, order): &Pair) -> String {
 /// Cases by sort and outcome.
 type Counts = BTreeMap<(&'static str, String), usize>;
 
-/// Cases, those of the empty text, with wide constants, where exits are not steps and with counters among them, reports given by what they
-/// compare, and differences; flows that were searched again by trial of numbers, those with counters among them, and with idle instructions
-/// in them; the largest numbers met.
+/// Cases, those of the empty text, with wide constants and where exits are not steps among them, reports given by what they compare, and
+/// differences; flows that were searched again with idle instructions in them; the largest numbers met.
 #[derive(Default)]
 struct Tally {
     seed: u64,
@@ -140,10 +99,8 @@ struct Tally {
     of_empty: Counts,
     of_wide: Counts,
     of_exits: Counts,
-    of_counters: Counts,
     of_pairs: BTreeMap<Pair, usize>,
     confirmed: usize,
-    counted: usize,
     padded: usize,
     past: usize,
     configurations: usize,
@@ -175,78 +132,8 @@ impl Tally {
         }
     }
 
-    fn note_counters(&mut self, sort: &'static str, outcome: &str, met: bool) {
-        if met {
-            *self.of_counters.entry((sort, outcome.to_string())).or_default() += 1;
-        }
-    }
-
-    /// What a text meets with counters.
-    fn note_counter_text(&mut self, text: &[u8], read: &Result<Flow, Refusal>) {
-        let why = match read {
-            Ok(flow) => return self.note_counters("text", "legal", flow.counters > 0),
-            Err(why) => *why,
-        };
-        let lines: Vec<&[u8]> = text.split(|b| *b == 10).collect();
-        let fields = |line: usize| lines.get(line).map_or(Vec::new(), |line| line.split(|b| *b == b',').collect::<Vec<_>>());
-        let (first, at) = (fields(0), fields((why.place as usize).wrapping_sub(1)));
-        let other = |i: usize, other: &str| meets(text, why, i, other);
-        if why.place == 1 {
-            self.note_counters("text", "refused 5 for Z", why.number == 5 && at.len() == 5 && other(4, "1"));
-            self.note_counters("text", "refused 15 for Z", why.number == 15 && at.len() == 5 && other(4, "1"));
-            self.note_counters("text", "refused 14 for six fields on line 1", why.number == 14 && at.len() == 6);
-            return;
-        }
-        let word = at.get(1).copied().unwrap_or(b"");
-        if ![&b"zero"[..], b"up", b"count"].contains(&word) {
-            return;
-        }
-        let without = why.number == 5 && first.len() == 4;
-        self.note_counters("text", "refused 5 for a counter without Z", without);
-        self.note_counters("text", "refused 5 for the number of a counter", why.number == 5 && !without && other(2, "1"));
-        self.note_counters("text", "refused 7", why.number == 7);
-        self.note_counters("text", "refused 14 for an instruction", why.number == 14);
-        let own = (why.place - 1).to_string();
-        let turned = replaced(text, why, 0, &own).is_some_and(|text| reader::read(&text).is_err_and(|other| other.number == 5));
-        self.note_counters("text", "refused 6, where its own number gives 5", why.number == 6 && turned);
-        if word == b"count" && at.len() == 6 {
-            let c = at[3];
-            self.note_counters("text", "refused 5 for c", why.number == 5 && other(3, "1000"));
-            self.note_counters("text", "refused 5 for 1001 as c", why.number == 5 && c == b"1001" && other(3, "1000"));
-            self.note_counters("text", "refused 15 for c with a minus", why.number == 15 && c.starts_with(b"-") && other(3, "0"));
-            self.note_counters("text", "refused 15 for -0 as c", why.number == 15 && c == b"-0" && other(3, "0"));
-        }
-    }
-
-    /// A run that is right by the implementation, and how far its counters come.
-    fn note_run(&mut self, text: &[u8], checked: Checked, ran: Result<Ran, Refusal>, case: &RunCase) {
-        if let (Ok(ran), Ok(flow)) = (&ran, reader::read(text)) {
-            let counts = |x: &Instruction| matches!(x, Instruction::Count { .. });
-            let many = flow.instructions.iter().zip(&ran.m).any(|(x, m)| counts(x) && *m > 0);
-            self.note_counters("run", "a counter past 1000", ran.highest > 1000);
-            self.note_counters("run", "a counter past 65,536, with counts", ran.highest > 65_536 && many);
-            self.note_counters("run", "a counter of 980,000 or more", ran.highest >= 980_000);
-        }
-        self.note("run", checked, text, case);
-    }
-
-    /// A bound of a legal flow, with its factors.
-    fn note_bound(&mut self, checked: Checked, text: &[u8], flow: Option<&Flow>) {
-        if let Some(flow) = flow {
-            let factors = flow.largest().iter().filter(|c| **c > 0).count();
-            let bound = bound::bound(flow);
-            self.note_counters("bound", "a number, with a factor", bound.is_some() && factors > 0);
-            self.note_counters("bound", "65,536, with a factor", bound == Some(65_536) && factors > 0);
-            self.note_counters("bound", "a number, with two factors", bound.is_some() && factors == 2);
-            let alone = bound.is_none() && bound::without_counters(flow) <= MOST as u128;
-            self.note_counters("bound", "over by the counters alone", alone);
-        }
-        self.note("bound", checked, text, &"");
-    }
-
     /// A text that goes to the library, and what it is read as.
     fn note_text(&mut self, text: &[u8], read: &Result<Flow, Refusal>) {
-        self.note_counter_text(text, read);
         match read {
             Ok(flow) => {
                 self.note_wide("text", "a constant above 1000", flow.bounds().1 > 1000);
@@ -310,18 +197,8 @@ impl Tally {
                 }
             }
         }
-        for (sort, outcomes) in OF_COUNTERS {
-            for outcome in outcomes {
-                if !self.of_counters.contains_key(&(sort, outcome.to_string())) {
-                    missing.push(format!("{sort} with counters: {outcome}"));
-                }
-            }
-        }
         for pair in of_pairs().filter(|pair| !self.of_pairs.contains_key(pair)) {
             missing.push(format!("report with a comparison of {}", named(&pair)));
-        }
-        if self.counted == 0 {
-            missing.push("a flow with counters searched by trial of numbers".to_string());
         }
         if self.padded == 0 {
             missing.push("a flow with idle instructions in it".to_string());
@@ -350,40 +227,30 @@ impl Tally {
         for ((sort, outcome), count) in &self.of_exits {
             println!("{count:7} {sort} where exits are not steps: {outcome}");
         }
-        for ((sort, outcome), count) in &self.of_counters {
-            println!("{count:7} {sort} with counters: {outcome}");
-        }
         for (pair, count) in &self.of_pairs {
             println!("{count:7} report with a comparison of {}", named(pair));
         }
-        println!("searches of our own confirmed by trial of numbers: {}, {} of them with counters", self.confirmed, self.counted);
+        println!("searches of our own confirmed by trial of numbers: {}", self.confirmed);
         println!("searches of our own confirmed by the same flow with idle instructions in it: {}", self.padded);
         println!("refusals with more than 65,536 cells: {}", self.past);
         println!("generated flows have up to {} configurations, distances up to {}", self.configurations, self.distance);
     }
 }
 
-/// The text with another field at index i of the line that is refused, if the line has it.
-fn replaced(text: &[u8], why: Refusal, i: usize, other: &str) -> Option<Vec<u8>> {
+/// Whether refusal 5 meets this constant: it does not with the other one in its place.
+fn refused_for(text: &[u8], why: Refusal, constant: &str, other: &str) -> bool {
     let mut lines: Vec<&[u8]> = text.split(|b| *b == 10).collect();
-    let line = lines.get_mut((why.place as usize).wrapping_sub(1))?;
+    let Some(line) = lines.get_mut((why.place as usize).wrapping_sub(1)).filter(|_| why.number == 5) else {
+        return false;
+    };
     let mut fields: Vec<&[u8]> = line.split(|b| *b == b',').collect();
-    *fields.get_mut(i)? = other.as_bytes();
+    let Some(i) = fields.iter().position(|field| *field == constant.as_bytes()) else {
+        return false;
+    };
+    fields[i] = other.as_bytes();
     let changed = fields.join(&b',');
     *line = &changed;
-    Some(lines.join(&10))
-}
-
-/// Whether the refusal meets the field at index i of its line: it does not with the other one in its place.
-fn meets(text: &[u8], why: Refusal, i: usize, other: &str) -> bool {
-    replaced(text, why, i, other).is_some_and(|changed| reader::read(&changed).err() != Some(why))
-}
-
-/// Whether refusal 5 meets this constant.
-fn refused_for(text: &[u8], why: Refusal, constant: &str, other: &str) -> bool {
-    let line = text.split(|b| *b == 10).nth((why.place as usize).wrapping_sub(1)).filter(|_| why.number == 5);
-    let at = line.and_then(|line| line.split(|b| *b == b',').position(|field| field == constant.as_bytes()));
-    at.is_some_and(|i| meets(text, why, i, other))
+    reader::read(&lines.join(&10)).err() != Some(why)
 }
 
 fn known(text: &[u8]) -> Known {
@@ -523,12 +390,8 @@ fn confirm(tally: &mut Tally, text: &[u8], known: &Known) {
     if held > 3000.0 {
         return;
     }
-    // With counters there can be too many states all the same.
-    let Some(tried) = search::by_numbers(flow, reach) else {
-        return;
-    };
+    let tried = search::by_numbers(flow, reach);
     tally.confirmed += 1;
-    tally.counted += usize::from(flow.counters > 0);
     if (tried.configurations, &tried.p, &tried.m, &tried.pairs) != (census.configurations, &census.p, &census.m, &census.pairs) {
         tally.differ("census of our own", &[format!("by patterns {census:?}, by trial of numbers {tried:?}")], text, &reach);
     }
@@ -573,43 +436,15 @@ fn report(rng: &mut Rng, tally: &mut Tally, left: &mut Vec<Words>, text: &[u8], 
         given.iter().flat_map(|c| &c.pairs).for_each(|pair| *tally.of_pairs.entry(*pair).or_default() += 1);
         let other = given.zip(in_steps(known)).is_some_and(|(c, steps)| (&c.p, &c.m) != (&steps.p, &steps.m));
         tally.note_exits("report", "a distance less than the fewest steps", other);
-        tally.note_counters("report", "refused 9", flow.counters > 0 && checked.outcome == "refused 9");
-        if let Some(census) = given.filter(|_| flow.counters > 0) {
-            note_counts(tally, flow, census);
-        }
     }
     tally.note_search("report", checked, text, &"", cells);
     *left = lent.now().to_vec();
 }
 
-/// The exits of `count` in a report that is given, and whether the counters make configurations that would be one without them.
-fn note_counts(tally: &mut Tally, flow: &Flow, census: &Census) {
-    for (i, instruction) in flow.instructions.iter().enumerate() {
-        if let Instruction::Count { .. } = instruction {
-            let (p, m) = (census.p[i], census.m[i]);
-            tally.note_counters("report", "a distance of p", p.is_some());
-            tally.note_counters("report", "a distance of m", m.is_some());
-            tally.note_counters("report", "a distance of 1000 or more", p.max(m) >= Some(1000));
-            tally.note_counters("report", "p none, m not", p.is_none() && m.is_some());
-            tally.note_counters("report", "m none, p not", m.is_none() && p.is_some());
-            tally.note_counters("report", "p and m none", p.is_none() && m.is_none());
-        }
-    }
-    let without = bound::without_counters(flow);
-    tally.note_counters("report", "more configurations than the bound without the counters", census.configurations as u128 > without);
-}
-
 fn sample(rng: &mut Rng, tally: &mut Tally, left: &mut Vec<Words>, text: &[u8], known: &Known, cells: usize, case: &SampleCase) {
     let mut lent = lent::cells(rng, cells, left);
     let (checked, judged) = cases::sample(rng, text, known, &mut lent, case);
-    if let (Ok((flow, _)), "none" | "refused 10") = (known, checked.outcome.as_str()) {
-        let counts = flow.instructions.get(case.instruction as usize - 1).is_some_and(|x| matches!(x, Instruction::Count { .. }));
-        tally.note_counters("sample", &checked.outcome, counts);
-    }
-    if let Some(Judged { distance, steps, counts, records }) = judged {
-        tally.note_counters("sample", "through a loop", counts > 1);
-        tally.note_counters("sample", "through a loop of 100 rounds or more", counts >= 100);
-        tally.note_counters("sample", "with records, through a loop", counts > 1 && !records.is_empty());
+    if let Some(Judged { distance, steps, records }) = judged {
         tally.note_wide("sample", "a record above 9999", records.iter().any(|record| *record > 9999));
         tally.note_wide("sample", "a record below -9999", records.iter().any(|record| *record < -9999));
         tally.note_exits("sample", "more steps than exits", steps > u64::from(distance));
@@ -686,12 +521,11 @@ fn report_and_samples(rng: &mut Rng, tally: &mut Tally, left: &mut Vec<Words>, t
 /// Flows of 65,535 to 65,537 configurations, with about as many cells, none of them 0.
 fn edges(rng: &mut Rng, tally: &mut Tally) {
     for n in 0..3 {
-        for (flow, instruction, exit, row) in [
-            (gen::edge(n), n + 3, false, 12),
-            (gen::edge_of_one(n as i64), 4, true, 12),
-            (gen::edge_of_two(n as i64), 5, true, 12),
-            (gen::edge_of_four(n, n == 1), n + 10, true, 12),
-            (gen::edge_of_counters(n), n + 5, false, 62 * 528),
+        for (flow, instruction, exit) in [
+            (gen::edge(n), n + 3, false),
+            (gen::edge_of_one(n as i64), 4, true),
+            (gen::edge_of_two(n as i64), 5, true),
+            (gen::edge_of_four(n, n == 1), n + 10, true),
         ] {
             let text = flow.text().into_bytes();
             let known = known(&text);
@@ -699,7 +533,7 @@ fn edges(rng: &mut Rng, tally: &mut Tally) {
             assert_eq!(search::census(&flow, usize::MAX).map(|c| c.configurations), count, "counted by hand");
             for cells in [MOST - 2 + n, MOST - 1 + n, MOST + n, MOST + 3000] {
                 report(rng, tally, &mut Vec::new(), &text, &known, cells);
-                sample(rng, tally, &mut Vec::new(), &text, &known, cells, &SampleCase { instruction: instruction as u64, exit, row });
+                sample(rng, tally, &mut Vec::new(), &text, &known, cells, &SampleCase { instruction: instruction as u64, exit, row: 12 });
             }
         }
     }
@@ -723,21 +557,6 @@ fn late(rng: &mut Rng, tally: &mut Tally) {
     }
 }
 
-/// Runs whose counter comes far past every c: of a million steps, or nearly.
-fn far(rng: &mut Rng, tally: &mut Tally) {
-    for _ in 0..40 {
-        let text = gen::far(rng).text().into_bytes();
-        let limit = match rng.below(4) {
-            0 => 900_000 + rng.below(100_000) as u64,
-            1 => *rng.pick(&[999_999, 1_000_001, u64::MAX]),
-            _ => 1_000_000,
-        };
-        let case = RunCase { limit, records: vec![7], lengths: vec![1], numbers: 0, values: 0 };
-        let (checked, ran) = cases::run(rng, &text, &case);
-        tally.note_run(&text, checked, ran, &case);
-    }
-}
-
 /// A generated flow: its text, read back and run twice.
 fn run_twice(rng: &mut Rng, tally: &mut Tally, flow: &Flow) -> Vec<u8> {
     let text = flow.text().into_bytes();
@@ -746,10 +565,10 @@ fn run_twice(rng: &mut Rng, tally: &mut Tally, flow: &Flow) -> Vec<u8> {
     tally.note_text(&text, &read);
     for _ in 0..2 {
         let case = run_case(rng, Some(flow));
-        let (checked, ran) = cases::run(rng, &text, &case);
-        tally.note_run(&text, checked, ran, &case);
+        let checked = cases::run(rng, &text, &case);
+        tally.note("run", checked, &text, &case);
     }
-    tally.note_bound(cases::bound(rng, &text), &text, Some(flow));
+    tally.note("bound", cases::bound(rng, &text), &text, &"");
     text
 }
 
@@ -765,7 +584,6 @@ fn main() -> ExitCode {
     let mut tally = Tally { seed, ..Tally::default() };
     edges(rng, &mut tally);
     late(rng, &mut tally);
-    far(rng, &mut tally);
     let left = &mut Vec::new();
     for round in 0..rounds {
         let flow = gen::flow(rng);
@@ -791,7 +609,7 @@ fn main() -> ExitCode {
             let flow = gen::bounded(rng);
             let text = flow.text().into_bytes();
             assert_eq!(reader::read(&text).as_ref(), Ok(&flow), "a generated flow is read back");
-            tally.note_bound(cases::bound(rng, &text), &text, Some(&flow));
+            tally.note("bound", cases::bound(rng, &text), &text, &"");
             if round % 128 == 0 {
                 lent_the_bound(rng, &mut tally, left, &text, &known(&text));
             }
@@ -813,10 +631,10 @@ fn main() -> ExitCode {
         if let (true, Some(program)) = (round % 16 == 8 || text.len() > 4096, &of_bounds) {
             tally.note("program bound", program::bound(program, &text), &text, &"");
         }
-        tally.note_bound(cases::bound(rng, &text), &text, read.as_ref());
+        tally.note("bound", cases::bound(rng, &text), &text, &"");
         let case = run_case(rng, read.as_ref());
-        let (checked, ran) = cases::run(rng, &text, &case);
-        tally.note_run(&text, checked, ran, &case);
+        let checked = cases::run(rng, &text, &case);
+        tally.note("run", checked, &text, &case);
         if round % 8 == 0 {
             report_and_samples(rng, &mut tally, left, &text, 1, cells_for);
         }

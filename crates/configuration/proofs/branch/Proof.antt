@@ -22,14 +22,6 @@ returns-4 c = arms.not_weighing _ _ c.enum-told4.given.1 c.before.before.before.
 returns-5 : tie.Need-returns-5
 returns-5 c = arms.not_weighing _ _ c.enum-told5.given.1 c.before.before.before.requires.1.1 refl
 
-returns-6 : tie.Need-returns-6
-returns-6 c = arms.not_weighing _ _ c.enum-told6.given.1 c.before.before.before.requires.1.1 refl
-
-returns-7 : tie.Need-returns-7
-returns-7 c =
-    arms.next-limit _ _ _ _ _ c.before.before.before.enum-told7.given.1 c.before.before.fewer.ensures c.before.choose2.ensures
-    c.moved2.ensures
-
 pub branch-spec : {M : Type 1} → statement M
 branch-spec =
     tie.close
@@ -47,11 +39,4 @@ branch-spec =
     (λ c. search rules)
     returns-4
     (λ c. search rules)
-    returns-5
-    (λ c. search rules)
-    returns-6
-    (λ c. search rules)
-    (λ c κs. search rules)
-    (λ c κs. search rules)
-    (λ c κs. search rules)
-    returns-7)
+    returns-5)

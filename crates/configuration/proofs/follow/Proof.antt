@@ -22,12 +22,6 @@ returns-4 c = arms.next_go _ _ _ c.before.enum-told4.given.1 c.moved.ensures
 returns-5 : tie.Need-returns-5
 returns-5 c = arms.not_going_on _ _ c.enum-told5.given.1 c.before.before.before.requires.1.1.1 refl
 
-returns-6 : tie.Need-returns-6
-returns-6 c = arms.next_tick _ _ _ _ c.before.enum-told6.given.1 c.tick.ensures
-
-returns-7 : tie.Need-returns-7
-returns-7 c = arms.not_going_on _ _ c.enum-told7.given.1 c.before.before.before.requires.1.1.1 refl
-
 pub follow-spec : {M : Type 1} → statement M
 follow-spec =
     tie.close
@@ -46,9 +40,4 @@ follow-spec =
     (λ c κs. search rules)
     returns-4
     (λ c. search rules)
-    returns-5
-    (λ c. search rules)
-    (λ c κs. search rules)
-    returns-6
-    (λ c. search rules)
-    returns-7)
+    returns-5)

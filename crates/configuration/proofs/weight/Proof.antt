@@ -19,12 +19,6 @@ returns-4 c = arms.weight_arm _ _ _ c.enum-told4.given.1 refl
 returns-5 : tie.Need-returns-5
 returns-5 c = arms.weight_arm _ _ _ c.enum-told5.given.1 refl
 
-returns-6 : tie.Need-returns-6
-returns-6 c = arms.weight_arm _ _ _ c.enum-told6.given.1 refl
-
-returns-7 : tie.Need-returns-7
-returns-7 c = arms.weight_arm _ _ _ c.enum-told7.given.1 refl
-
 pub weight-spec : {M : Type 1} → statement M
 weight-spec =
     tie.close
@@ -34,12 +28,8 @@ weight-spec =
     (λ c. search)
     (λ c. search)
     (λ c. search)
-    (λ c. search)
-    (λ c. search)
     returns
     returns-2
     returns-3
     returns-4
-    returns-5
-    returns-6
-    returns-7)
+    returns-5)

@@ -7,7 +7,6 @@ use Rattle.model.specs.Language.{Flow, instruction}
 use Rattle.model.specs.Machine.{Exit, p_exit}
 use Rattle.model.specs.Distance.{weight}
 use Rattle.configuration.specs.Inner.Place.{at_of}
-use Rattle.constants.specs.Inner.Caps.{caps_of}
 use Rattle.configuration.specs.Inner.Op.{op_of}
 use Rattle.configuration.specs.Inner.Step.{next_of, take_of, word_exit_of, ended_of, start_of}
 use Rattle.configuration.specs.declared.Words.{Words}
@@ -21,7 +20,7 @@ pub data WordEdge (w : ℕ) (op : Op) (x : Words) : Option Exit → Words → Ty
 
 -- the prepared instruction that words are about to run
 abbrev pub op_at : (lo : ℤ) → Flow → Words → Op
-op_at lo flow x = op_of lo (caps_of flow) (instruction flow (at_of x.place))
+op_at lo flow x = op_of lo (instruction flow (at_of x.place))
 
 unfoldable pub word_graph : (lo : ℤ) (w : ℕ) → Flow → Graph Words (Option Exit)
 word_graph lo w flow = record { start = start_of lo; Edge = λ x e y. WordEdge w (op_at lo flow x) x e y; cost = weight }

@@ -1,9 +1,9 @@
--- The place word: three bits for the tapes on which a read has met the end, above them seven for the number of the instruction about to be run, and
--- ten for each of two counters. With the pattern word it is a configuration (document 01, "Distances and configurations"; document 02, T-10).
-use Rattle.std.specs.Prelude.{Bool, List, map, ℕ, ◌+◌, ◌*◌, ◌/◌, ◌%◌, min, ℤ, get_or, set, take, eqb}
+-- The place word: three bits for the tapes on which a read has met the end, above them seven for the number of the instruction about to be run.
+-- With the pattern word it is a configuration (document 01, "Distances and configurations").
+use Rattle.std.specs.Prelude.{Bool, List, map, ℕ, ◌+◌, ◌*◌, ◌/◌, ◌%◌, ℤ, set, take, eqb}
 use Rattle.model.specs.Language.{Flow}
 use Rattle.model.specs.Configuration.{Configuration}
-use Rattle.flow.specs.Limits.{max_tapes, max_counters}
+use Rattle.flow.specs.Limits.{max_tapes}
 use Rattle.pattern_word.specs.Inner.Digits.{digits, undigits}
 use Rattle.pattern_word.specs.Inner.Pattern.{lanes, mark_of}
 use Rattle.configuration.specs.declared.Words.{Words}
@@ -19,32 +19,18 @@ at_of place = place / 8 % 128
 unfoldable pub ends_of : ℕ → List Bool
 ends_of place = map (eqb 1) (digits 2 max_tapes place)
 
--- the counters
-unfoldable pub counters_of : ℕ → List ℕ
-counters_of place = digits 1024 max_counters (place / 1024)
-
--- the bits of both
-abbrev pub counters_part : ℕ → ℕ
-counters_part place = place / 1024 % 1048576
-
--- on to instruction n; the same with tape a ended, and with counter z one more, but no more than cap; a and z counted from 0
+-- on to instruction n; the same with tape a ended, counted from 0
 unfoldable pub go_of : (place n : ℕ) → ℕ
-go_of place n = counters_part place * 1024 + (n * 8 + place % 8)
+go_of place n = n * 8 + place % 8
 
 unfoldable pub finish_of : (place a n : ℕ) → ℕ
-finish_of place a n = counters_part place * 1024 + (n * 8 + undigits 2 (set (digits 2 max_tapes place) a 1))
+finish_of place a n = n * 8 + undigits 2 (set (digits 2 max_tapes place) a 1)
 
-unfoldable pub tick_of : (place z cap n : ℕ) → ℕ
-tick_of place z cap n =
-    undigits 1024 (set (counters_of place) z (min (get_or (counters_of place) z 0 + 1) cap)) * 1024 + (n * 8 + place % 8)
-
--- the configuration that two words are. There are always three bits, four lanes and two counters; a flow uses the first T bits, the first
--- V lanes and the first Z counters.
+-- the configuration that two words are. There are always three bits and four lanes; a flow uses the first T bits and the first V lanes.
 unfoldable pub configuration_of : (lo : ℤ) (w : ℕ) → Flow → Words → Configuration
 configuration_of lo w flow x =
     record {
       next = at_of x.place;
       ended = take flow.tapes (ends_of x.place);
       marks = take flow.variables (map (mark_of lo w) (lanes w x.pattern));
-      counters = take flow.counters (counters_of x.place);
     }

@@ -5,12 +5,12 @@ use Rattle.model.specs.Machine.{Exit, p_exit, m_exit, exit_if}
 use Rattle.flow.specs.Limits.{max_variables}
 use Rattle.pattern_word.specs.Inner.Digits.{undigits}
 use Rattle.pattern_word.specs.Inner.Pattern.{lane, lanes, value_of, less_of, assign_of}
-use Rattle.configuration.specs.Inner.Place.{words, ends_of, counters_of, go_of, finish_of, tick_of}
+use Rattle.configuration.specs.Inner.Place.{words, ends_of, go_of, finish_of}
 use Rattle.constants.specs.Inner.Constants.{offset}
 use Rattle.configuration.specs.declared.Words.{Words}
 use Rattle.configuration.specs.declared.Op.{Op}
 use Rattle.configuration.specs.declared.Action.{Action}
-use Rattle.configuration.specs.declared.Action.TheVariants.{Read, Assign, Test, Go, Stop, Tick, Limit}
+use Rattle.configuration.specs.declared.Action.TheVariants.{Read, Assign, Test, Go, Stop}
 
 -- the code of term u, if the variables have these codes
 unfoldable pub term_of : Op → (codes : List ℕ) → ℕ → ℕ
@@ -23,10 +23,6 @@ holds_of w op x = less_of w (term_of op (lanes w x.pattern) op.left) (term_of op
 -- whether tape a has met its end
 unfoldable pub ended_of : (place a : ℕ) → Bool
 ended_of place a = get_or (ends_of place) a false
-
--- whether the counter is below the limit
-unfoldable pub fewer_of : Op → Words → Bool
-fewer_of op x = ltb (get_or (counters_of x.place) op.counter 0) op.limit
 
 -- on to instruction n
 unfoldable pub go_on : Words → ℕ → Words
@@ -43,8 +39,6 @@ next_by Assign w op x = take_of w op x (value_of w (term_of op (lanes w x.patter
 next_by Test w op x = go_on x (cond (holds_of w op x) op.p op.m)
 next_by Go w op x = go_on x op.p
 next_by Stop w op x = x
-next_by Tick w op x = words (tick_of x.place op.counter op.limit op.p) x.pattern
-next_by Limit w op x = go_on x (cond (fewer_of op x) op.p op.m)
 
 unfoldable pub next_of : (w : ℕ) → Op → Words → Words
 next_of w op x = next_by op.action w op x
@@ -60,8 +54,6 @@ word_exit_by Assign w op x = none
 word_exit_by Test w op x = some (exit_if (holds_of w op x))
 word_exit_by Go w op x = none
 word_exit_by Stop w op x = none
-word_exit_by Tick w op x = none
-word_exit_by Limit w op x = some (exit_if (fewer_of op x))
 
 unfoldable pub word_exit_of : (w : ℕ) → Op → Words → Option Exit
 word_exit_of w op x = word_exit_by op.action w op x
@@ -73,8 +65,6 @@ weight_by Assign = 0
 weight_by Test = 1
 weight_by Go = 0
 weight_by Stop = 0
-weight_by Tick = 0
-weight_by Limit = 1
 
 unfoldable pub weight_of : Op → ℕ
 weight_of op = weight_by op.action
@@ -86,8 +76,6 @@ goes_on_by Assign = true
 goes_on_by Test = false
 goes_on_by Go = true
 goes_on_by Stop = false
-goes_on_by Tick = true
-goes_on_by Limit = false
 
 unfoldable pub goes_on_of : Op → Bool
 goes_on_of op = goes_on_by op.action
@@ -101,13 +89,10 @@ takes_by Test w op x p_exit = holds_of w op x
 takes_by Test w op x m_exit = not (holds_of w op x)
 takes_by Go w op x e = false
 takes_by Stop w op x e = false
-takes_by Tick w op x e = false
-takes_by Limit w op x p_exit = fewer_of op x
-takes_by Limit w op x m_exit = not (fewer_of op x)
 
 unfoldable pub takes_of : (w : ℕ) → Op → Words → Exit → Bool
 takes_of w op x e = takes_by op.action w op x e
 
--- the start: instruction 1, no end met, every variable 0, every counter 0
+-- the start: instruction 1, no end met, every variable 0
 unfoldable pub start_of : (lo : ℤ) → Words
 start_of lo = words 8 (undigits lane (replicate max_variables (offset (pos 0) lo)))

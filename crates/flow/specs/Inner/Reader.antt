@@ -1,15 +1,14 @@
 -- What the code keeps of a line and answers on its parts. The number of a line and the counts of line 1 are kept in a byte, the numbers of a row
 -- up to 100,000: a larger one is given as one that is past every range too, so that it changes no answer (proofs/ClampLaws.antt).
-use Rattle.std.specs.Prelude.{cond, List, [], ◌∷◌, ◌++◌, map, ℕ, min, ◌-◌, ◌≤◌, ℤ, pos, negsuc, length, replicate}
+use Rattle.std.specs.Prelude.{cond, List, ◌++◌, map, ℕ, min, ◌-◌, ◌≤◌, ℤ, pos, negsuc, length, replicate}
 use Rattle.std.proofs.Math.Option.{Option, none, some}
 use Rattle.std.specs.Int.Signed.{lt_z}
-use Rattle.model.specs.Language.{Instruction, Field, tape, output, variable, counter, target, limit, constant}
-use Rattle.flow.specs.Limits.{max_tapes, max_outputs, max_variables, max_counters}
+use Rattle.model.specs.Language.{Instruction, Field, tape, output, variable, target, constant}
+use Rattle.flow.specs.Limits.{max_tapes, max_outputs, max_variables}
 use Rattle.flow.specs.Read.{Checked, ok, fault}
 use Rattle.flow.specs.declared.Kind.{Kind}
-use Rattle.flow.specs.declared.Kind.TheVariants.{Under, Nop, Stop, Zero, Up, Count}
 use Rattle.flow.specs.declared.Sort.{Sort}
-use Rattle.flow.specs.declared.Sort.TheVariants.{Target, Tape, Output, Variable, Counter, Constant, Limit}
+use Rattle.flow.specs.declared.Sort.TheVariants.{Target, Tape, Output, Variable, Constant}
 use Rattle.flow.specs.Words.{count}
 use Rattle.flow.specs.Code.{kind, numbers, row}
 use Rattle.flow.specs.declared.Head.{Head}
@@ -36,10 +35,6 @@ abbrev pub kind_in : Word → Option Kind
 kind_in (Known k) = some k
 kind_in Unknown = none
 
--- the later half of the table
-abbrev pub later_kinds : List Kind
-later_kinds = Under ∷ Nop ∷ Stop ∷ Zero ∷ Up ∷ Count ∷ []
-
 -- the code's range of a number
 abbrev pub range_in : Range → Option (ℤ × ℤ)
 range_in Any = none
@@ -50,9 +45,7 @@ abbrev pub field : Sort → ℤ → Field
 field Tape z = tape (count z)
 field Output z = output (count z)
 field Variable z = variable (count z)
-field Counter z = counter (count z)
 field Target z = target (count z)
-field Limit z = limit (count z)
 field Constant z = constant z
 
 -- a row has four numbers, and the code holds four sorts; those past the kind's own fields do not count
@@ -72,4 +65,3 @@ pub record HeadFits (h : Head) : Type 0 where
   pub tapes : (1 ≤ h.tapes) × (h.tapes ≤ max_tapes)
   pub outputs : h.outputs ≤ max_outputs
   pub variables : (1 ≤ h.variables) × (h.variables ≤ max_variables)
-  pub counters : h.counters ≤ max_counters

@@ -18,7 +18,6 @@ flow_of rows = record {
   tapes = rows.tapes;
   outputs = rows.outputs;
   variables = rows.variables;
-  counters = rows.counters;
   instructions = map instruction_of (take rows.count rows.instructions);
 }
 

@@ -1,15 +1,14 @@
 -- `flow_bound::bound_of` meets its contract: the factors, and the answer for their product.
-use mathlib.Core.Path.{◌≡◌, sym, ap, ap₂, ◌∙◌}
+use mathlib.Core.Path.{◌≡◌, ap, ap₂, ◌∙◌}
 use native.Mathlib.Omega.{arith}
 use borrow.Author.Rules.{rules}
 use Rattle.model.specs.Language.{C1, C2}
 use Rattle.model.specs.Pattern.{width_of}
 use Rattle.patterns.specs.Patterns.{patterns_of}
 use Rattle.flow.specs.Inner.Rows.{flow_of}
-use lib.ListN.{get_or}
 use Rattle.flow_bound.specs.Bound.{bound_of, bound_answer}
-use Rattle.flow_bound.specs.Inner.Capped.{capped_cells, values_shown}
-use Rattle.flow_bound.proofs.CapLaws.{values-caps, answer_product}
+use Rattle.flow_bound.specs.Inner.Capped.{capped_cells}
+use Rattle.flow_bound.proofs.CapLaws.{answer_product}
 use Rattle.flow_bound.proofs.Factors.{legal-width, rows-count}
 use Rattle.flow_bound.proofs.bound_of.Statement.{statement}
 use Rattle.flow_bound.proofs.bound_of.Tie as tie
@@ -30,34 +29,21 @@ pattern-count-requires c κs =
     let legal = start.requires.0 in
     (legal.variables.0, legal.variables.1, omega (arith, width_is width, legal-width (flow_of start.args.flow) legal))
 
-counter-values-requires : tie.Need-counter-values-requires
-unfolding flow_of
-counter-values-requires c κs = omega (arith, c.before.before.before.before.before.before.before.requires.0.counters)
-
 returns : tie.Need-returns
 unfolding bound_of flow_of
 returns c =
     let whole = c.before in
-    let patterned = whole.before in
-    let places = patterned.before in
-    let values = places.before in
-    let caps = values.before in
-    let patterns = caps.before in
+    let places = whole.before in
+    let patterns = places.before in
     let ends = patterns.before in
     let count = ends.before in
     let width = count.before.before in
-    let start = width.before.before in
-    let rows = start.args.flow in
-    let xs = (flow_of rows).instructions in
+    let rows = width.before.before.args.flow in
     let number = patterns.pattern-count.ensures.0 ∙ ap (λ w. capped_cells (patterns_of rows.variables w)) (width_is width) in
-    let shown = values.counter-values.ensures.0
-    ∙ ap (λ l. capped_cells (values_shown rows.counters (get_or l 0 0) (get_or l 1 0))) caps.caps-of.ensures
-    ∙ ap capped_cells (sym (values-caps xs rows.counters start.requires.0.counters)) in
     let instructions = rows-count rows count.instruction-count.result count.instruction-count.ensures.0 in
     c.answer-for.ensures
-    ∙ answer_product count.instruction-count.result rows.tapes ends.tape-sets.result patterns.pattern-count.result values.counter-values.result
-    places.times-plus.result patterned.times-plus2.result whole.times-plus3.result _ _ ends.tape-sets.ensures.0 number shown
-    (omega (arith, places.times-plus.ensures.0)) (omega (arith, patterned.times-plus2.ensures.0)) (omega (arith, whole.times-plus3.ensures.0))
+    ∙ answer_product count.instruction-count.result rows.tapes ends.tape-sets.result patterns.pattern-count.result places.times-plus.result
+    whole.times-plus2.result _ ends.tape-sets.ensures.0 number (omega (arith, places.times-plus.ensures.0)) (omega (arith, whole.times-plus2.ensures.0))
     ∙ ap bound_answer (rw instructions (omega arith))
 
 pub bound-of-spec : {M : Type 1} → statement M
@@ -69,11 +55,6 @@ bound-of-spec =
     (λ c κs. search rules)
     tape-sets-requires
     pattern-count-requires
-    (λ c κs. search rules)
-    (λ c. search rules)
-    (λ c. search rules)
-    counter-values-requires
-    (λ c κs. search rules)
     (λ c κs. search rules)
     (λ c κs. search rules)
     (λ c κs. search rules)

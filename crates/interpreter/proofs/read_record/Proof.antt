@@ -51,8 +51,8 @@ module _ (c : tie.Else1) where
   inside = c.if1.false
 
 returns : tie.Need-returns
-returns c cs = let k = (fields c.before.before).before in let a = k.before in
-    read_none a.args.x _ _ _ _ cs a.pre.0 a.pre.1.1 (omega (arith, named a))
+returns c = let k = (fields c.before.before).before in let a = k.before in
+    read_none a.args.x _ _ _ _ a.pre.0 a.pre.1.1 (omega (arith, named a))
     (subst (λ (n : ℕ). get_or a.args.ends.now (n - 1) 0 ≤ get_or a.args.at.now (n - 1) 0) k.count.ensures c.before.if1.true)
     c.either.ensures
 
@@ -66,8 +66,8 @@ shared-slice-copy-out-y : tie.Need-shared-slice-copy-out-y
 shared-slice-copy-out-y c = omega (arith, (it c).requires.1.1.within ((counted c).count.result - 1), inside c)
 
 returns-2 : tie.Need-returns-2
-returns-2 c cs = let y = c.before in let k = counted y.before in let a = k.before in let n = k.count.result in
-    read_some a.args.x _ _ _ _ cs a.pre.0 a.pre.1.1 (omega (arith, named a))
+returns-2 c = let y = c.before in let k = counted y.before in let a = k.before in let n = k.count.result in
+    read_some a.args.x _ _ _ _ a.pre.0 a.pre.1.1 (omega (arith, named a))
     (get_or a.args.at.now (n - 1) 0) (ap (λ (i : ℕ). get_or a.args.at.now (i - 1) 0) k.count.ensures)
     (subst (λ (i : ℕ). get_or a.args.at.now (n - 1) 0 < get_or a.args.ends.now (i - 1) 0) k.count.ensures (inside y.before))
     (ap₂ (λ (i : ℕ) (y : ℤ). set a.args.variables.now (i - 1) y) (fields y.before.before).count2.ensures (to_z-of_z {w = w32} (sfits_of y.y.given)))

@@ -13,18 +13,18 @@ use Rattle.flow.specs.declared.Instruction.{Instruction as Row}
 use Rattle.flow.specs.declared.Kind.TheVariants.{Read}
 use Rattle.interpreter.proofs.RowLaws.{row_fits}
 use Rattle.interpreter.proofs.RunLaws.{rows-kept, cell_free}
-use Rattle.interpreter.proofs.RunLaws.{Running, running_start, running_on, counts-below, counters-below, ends_stopped, ends_spent, ends-full}
+use Rattle.interpreter.proofs.RunLaws.{Running, running_start, running_on, counts-below, ends_stopped, ends_spent, ends-full}
 use Rattle.interpreter.proofs.run_from.Statement.{statement}
 use Rattle.interpreter.specs.Inner.Arrays.{RowFits, stops, outputs}
 use Rattle.interpreter.proofs.run_from.Tie as tie
 
 abbrev invariant-loop : tie.invariant-loop
-invariant-loop limit records cells numbers₀ values₀ flow ends next₀ variables₀ at₀ counters₀ p₀ m₀ steps₀ puts₀ numbers values next variables at counters p m steps puts =
+invariant-loop limit records cells numbers₀ values₀ flow ends next₀ variables₀ at₀ p₀ m₀ steps₀ puts₀ numbers values next variables at p m steps puts =
     Running flow limit cells records at₀ ends numbers₀ values₀ steps
-    (record { next = next; variables = variables; at = at; counters = counters; puts = puts; numbers = numbers; values = values; p = p; m = m })
+    (record { next = next; variables = variables; at = at; puts = puts; numbers = numbers; values = values; p = p; m = m })
 
 abbrev decreases-loop : tie.decreases-loop
-decreases-loop limit records cells numbers₀ values₀ flow ends next₀ variables₀ at₀ counters₀ p₀ m₀ steps₀ puts₀ numbers values next variables at counters p m steps puts =
+decreases-loop limit records cells numbers₀ values₀ flow ends next₀ variables₀ at₀ p₀ m₀ steps₀ puts₀ numbers values next variables at p m steps puts =
     limit - steps
 
 -- ---- the places of a turn: where the run began, where the turn began, the tests passed, and the calls
@@ -40,8 +40,8 @@ going c = c.before.before
 abbrev putting : tie.After-put-arg2 invariant-loop decreases-loop → tie.Else3 invariant-loop decreases-loop
 putting c = c.before.before.before
 
-abbrev put_then : tie.After-counters invariant-loop decreases-loop → tie.After-put invariant-loop decreases-loop
-put_then c = c.before.before.before.before.before.before.before
+abbrev put_then : tie.After-ends invariant-loop decreases-loop → tie.After-put invariant-loop decreases-loop
+put_then c = c.before.before.before.before.before.before
 
 abbrev step_then : tie.After-m invariant-loop decreases-loop → tie.After-step invariant-loop decreases-loop
 step_then c = c.before.before
@@ -91,16 +91,8 @@ put-requires c κs = let e = putting c in let l = turn (going e.before).before i
 )
 
 step-requires : tie.Need-step-requires invariant-loop decreases-loop
-step-requires c κs = let f = (putting (put_then c).before).before in let g = going f in let l = turn g.before in let a = began l in (
-  goes g,
-  (
-    fits l,
-    (
-      l.loop.inv.shows.placed,
-      counters-below _ _ _ _ _ _ _ _ a.pre.0 a.pre.1.1.1 _ _ l.loop.inv past (more f.before) a.pre.1.0,
-    ),
-  ),
-)
+step-requires c κs = let g = going (putting (put_then c).before).before in let l = turn g.before in
+    (goes g, (fits l, l.loop.inv.shows.placed))
 
 count-requires : tie.Need-count-requires invariant-loop decreases-loop
 count-requires c κs = let f = (passed c).before in let l = turn (going f).before in let a = began l in (

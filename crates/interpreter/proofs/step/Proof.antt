@@ -3,25 +3,23 @@
 use mathlib.Core.Path.{◌≡◌, refl, sym, ap, ap₂, ◌∙◌}
 use mathlib.Core.Bool.{false≢true}
 use mathlib.Core.List.{List}
-use Prim.Native.Nat.{ℕ, ◌+◌, ◌-◌, ◌^◌, ◌<◌}
+use Prim.Native.Nat.{ℕ, ◌-◌, ◌^◌, ◌<◌}
 use native.Mathlib.Omega.{arith}
 use borrow.Author.Rules.{sfits_of, rules}
 use mir.Facts.{to_z-of_z}
 use mir.Syntax.{w32}
 use mir.Val.{to_z, of_z, hbits}
 use lib.ListN.{get_or, set}
-use lib.Dec.{ltb}
 use lib.Signed.{lt_z, mag}
 use lib.IntN.{ℤ, pos}
 use Rattle.model.specs.Language.{fields}
-use Rattle.flow.specs.Words.{count}
-use Rattle.flow.specs.Limits.{max_tapes, max_variables, max_counters}
+use Rattle.flow.specs.Limits.{max_tapes, max_variables}
 use Rattle.flow.specs.declared.Kind.{Kind}
-use Rattle.flow.specs.declared.Kind.TheVariants.{Copy, Set, Less, Over, Under, Zero, Up, Count}
+use Rattle.flow.specs.declared.Kind.TheVariants.{Copy, Set, Less, Over, Under}
 use Rattle.flow.specs.Inner.Rows.{instruction_of}
 use Rattle.interpreter.proofs.ArrayLaws.{kinded, fits_kind, stepped}
 use Rattle.interpreter.proofs.step.Statement.{statement}
-use Rattle.interpreter.specs.Inner.Arrays.{FieldsFit, RowFits, count_at, either_on, stops}
+use Rattle.interpreter.specs.Inner.Arrays.{FieldsFit, RowFits, either_on, stops}
 use Rattle.interpreter.proofs.step.Tie as tie
 
 -- a number that fits is read as it is
@@ -31,7 +29,7 @@ as_is ok is = to_z-of_z {w = w32} (sfits_of ok) ∙ is
 -- ---- by kind: what the row names fits
 module _ (a : tie.Start) where
   abbrev Fit : Kind → Type 0
-  Fit k = FieldsFit max_tapes max_variables max_counters (fields (instruction_of (kinded a.args.x k)))
+  Fit k = FieldsFit max_tapes max_variables (fields (instruction_of (kinded a.args.x k)))
 
   fit : {k : Kind} → a.args.x.kind ≡ k → Fit k
   unfolding RowFits
@@ -43,17 +41,6 @@ module _ (a : tie.Start) where
 
   abbrev putting : ℕ → ℤ → List ℤ
   putting v y = set a.args.variables.now (v - 1) y
-
-  -- the same of a counter
-  abbrev counted : ℕ → ℕ
-  counted z = get_or a.args.counters.now (z - 1) 0
-
-  abbrev counting : ℕ → ℕ → List ℕ
-  counting z k = set a.args.counters.now (z - 1) k
-
-  -- a counter that is set to one more than it held
-  one_more : {l : List ℕ} {z k : ℕ} (y : ℕ) → l ≡ counting z k → z ≡ y → k ≡ counted y + 1 → l ≡ counting y (counted y + 1)
-  one_more y is at more = is ∙ ap₂ counting at more
 
 fits-copy : (b : tie.After-enum-told3) → Fit b.before.before Copy
 fits-copy b = fit b.before.before b.enum-told3.given.1
@@ -69,15 +56,6 @@ fits-over b = fit b.before.before b.enum-told6.given.1
 
 fits_under : (b : tie.After-enum-told7) → Fit b.before.before Under
 fits_under b = fit b.before.before b.enum-told7.given.1
-
-fits-zero : (b : tie.After-enum-told10) → Fit b.before.before Zero
-fits-zero b = fit b.before.before b.enum-told10.given.1
-
-fits-up : (b : tie.After-enum-told11) → Fit b.before.before Up
-fits-up b = fit b.before.before b.enum-told11.given.1
-
-fits_count : (b : tie.After-enum-told12) → Fit b.before.before Count
-fits_count b = fit b.before.before b.enum-told12.given.1
 
 -- ---- the places of an arm: where a field is counted, from the arm's beginning or from the field before it
 abbrev copied : tie.After-count → tie.After-enum-told3
@@ -101,84 +79,50 @@ over c = c.before.before.before
 abbrev under : tie.After-count7 → tie.After-enum-told7
 under c = c.before.before
 
-abbrev zeroed : tie.After-count8 → tie.After-enum-told10
-zeroed c = c.before.before
-
-abbrev raised : tie.After-counter → tie.After-count9
-raised c = c.before.before
-
-abbrev limited : tie.After-count10 → tie.After-enum-told12
-limited c = c.before.before
-
--- a counter is at most the greatest step limit, so that one more fits
-raised-fits : tie.Need-overflow-add-set-counter
-raised-fits c = let read = c.before in let of = raised read in
-    omega (arith, read.counter.ensures, of.before.before.before.pre.1.1.1 (of.count9.result - 1))
-
 -- ---- the returns
 returns-2 : tie.Need-returns-2
 returns-2 c = let b = c.before in let a = b.before.before in
-    stepped a.args.x _ _ _ _ _ b.enum-told2.given.1 refl refl refl c.straight.ensures (λ n. refl) (λ n. refl) refl
+    stepped a.args.x _ _ _ _ b.enum-told2.given.1 refl refl c.straight.ensures (λ n. refl) (λ n. refl) refl
 
 returns-3 : tie.Need-returns-3
 returns-3 c = let to = c.before.before in let from = copied-to to in let read = to.before.before in let b = copied from in let a = b.before.before in
-    stepped a.args.x _ _ _ _ _ b.enum-told3.given.1
+    stepped a.args.x _ _ _ _ b.enum-told3.given.1
     (c.before.assign.ensures ∙ ap₂ (putting a) to.count2.ensures (as_is read.value.type-inv (read.value.ensures ∙ ap (held a) from.count.ensures)))
-    refl refl c.straight2.ensures (λ n. refl) (λ n. refl) refl
+    refl c.straight2.ensures (λ n. refl) (λ n. refl) refl
 
 returns-4 : tie.Need-returns-4
 returns-4 c = let read = c.before.before in let to = read.before in let b = set_to to in let a = b.before.before in
-    stepped a.args.x _ _ _ _ _ b.enum-told4.given.1
+    stepped a.args.x _ _ _ _ b.enum-told4.given.1
     (c.before.assign2.ensures ∙ ap₂ (putting a) to.count3.ensures (as_is read.number.type-inv read.number.ensures))
-    refl refl c.straight3.ensures (λ n. refl) (λ n. refl) refl
+    refl c.straight3.ensures (λ n. refl) (λ n. refl) refl
 
 returns-5 : tie.Need-returns-5
 returns-5 c = let right = c.before in let left = right.before.before.before in let b = less left.before in let a = b.before.before in
-    stepped a.args.x _ _ _ _ _ b.enum-told5.given.1 refl refl refl
+    stepped a.args.x _ _ _ _ b.enum-told5.given.1 refl refl
     (c.either.ensures ∙ ap (either_on a.args.x) (ap₂ lt_z (as_is left.value2.type-inv (left.value2.ensures ∙ ap (held a) left.before.count4.ensures))
     (as_is right.value3.type-inv (right.value3.ensures ∙ ap (held a) right.before.count5.ensures))))
     (λ n. refl) (λ n. refl) refl
 
 returns-6 : tie.Need-returns-6
 returns-6 c = let right = c.before in let left = right.before.before.before in let b = left.before in let a = b.before.before in
-    stepped a.args.x _ _ _ _ _ b.enum-told6.given.1 refl refl refl
+    stepped a.args.x _ _ _ _ b.enum-told6.given.1 refl refl
     (c.either2.ensures ∙ ap (either_on a.args.x) (ap₂ lt_z (as_is left.number2.type-inv left.number2.ensures)
     (as_is right.value4.type-inv (right.value4.ensures ∙ ap (held a) right.before.count6.ensures))))
     (λ n. refl) (λ n. refl) refl
 
 returns-7 : tie.Need-returns-7
 returns-7 c = let right = c.before in let left = right.before in let b = under left.before in let a = b.before.before in
-    stepped a.args.x _ _ _ _ _ b.enum-told7.given.1 refl refl refl
+    stepped a.args.x _ _ _ _ b.enum-told7.given.1 refl refl
     (c.either3.ensures ∙ ap (either_on a.args.x) (ap₂ lt_z (as_is left.value5.type-inv (left.value5.ensures ∙ ap (held a) left.before.count7.ensures))
     (as_is right.number3.type-inv right.number3.ensures)))
     (λ n. refl) (λ n. refl) refl
 
 returns-8 : tie.Need-returns-8
 returns-8 c = let b = c.before in let a = b.before.before in
-    stepped a.args.x _ _ _ _ _ b.enum-told8.given.1 refl refl refl c.straight4.ensures (λ n. refl) (λ n. refl) refl
+    stepped a.args.x _ _ _ _ b.enum-told8.given.1 refl refl c.straight4.ensures (λ n. refl) (λ n. refl) refl
 
 returns-9 : tie.Need-returns-9
 returns-9 c = absurd (false≢true (sym c.before.before.requires.0 ∙ ap stops c.enum-told9.given.1))
-
-returns-10 : tie.Need-returns-10
-returns-10 c = let of = c.before.before in let b = zeroed of in let a = b.before.before in
-    stepped a.args.x _ _ _ _ _ b.enum-told10.given.1 refl refl
-    (c.before.set-counter.ensures ∙ ap (λ (z : ℕ). counting a z 0) of.count8.ensures)
-    c.straight5.ensures (λ n. refl) (λ n. refl) refl
-
-returns-11 : tie.Need-returns-11
-returns-11 c = let read = c.before.before.before in let of = raised read in let b = of.before in let a = b.before.before in
-    stepped a.args.x _ _ _ _ _ b.enum-told11.given.1 refl refl
-    (one_more a (count_at a.args.x 0) c.before.set-counter2.ensures of.count9.ensures
-    (omega (arith, read.counter.ensures, ap (counted a) of.count9.ensures)))
-    c.straight6.ensures (λ n. refl) (λ n. refl) refl
-
-returns-12 : tie.Need-returns-12
-returns-12 c = let test = c.before in let number = test.before in let read = number.before in let of = read.before in let b = limited of in let a = b.before.before in
-    stepped a.args.x _ _ _ _ _ b.enum-told12.given.1 refl refl refl
-    (c.either4.ensures ∙ ap (either_on a.args.x) (test.below.ensures
-    ∙ ap₂ ltb (read.counter2.ensures ∙ ap (counted a) of.count10.ensures) (ap count (as_is number.number4.type-inv number.number4.ensures))))
-    (λ n. refl) (λ n. refl) refl
 
 pub step_spec : {M : Type 1} → statement M
 step_spec =
@@ -186,7 +130,7 @@ step_spec =
     (tie.spec
     (λ c. search rules)
     (λ c κs. search rules)
-    (λ c. c.read-record.ensures _)
+    (λ c. search rules)
     (λ c. search rules)
     (λ c κs. (omega arith, (fit c.before.before c.enum-told2.given.1).1.1.0))
     returns-2
@@ -226,23 +170,4 @@ step_spec =
     (λ c κs. (omega arith, (fit c.before.before c.enum-told8.given.1).0))
     returns-8
     (λ c. search rules)
-    returns-9
-    (λ c. search rules)
-    (λ c κs. (omega arith, (fits-zero c.before).0.0))
-    (λ c κs. omega (arith, c.count8.ensures, (fits-zero (zeroed c)).0))
-    (λ c κs. (omega arith, (fits-zero (zeroed c.before)).1.0))
-    returns-10
-    (λ c. search rules)
-    (λ c κs. (omega arith, (fits-up c).0.0))
-    (λ c κs. omega (arith, c.before.count9.ensures, (fits-up c.before.before).0))
-    raised-fits
-    (λ c κs. omega (arith, (raised c.before).count9.ensures, (fits-up (raised c.before).before).0))
-    (λ c κs. (omega arith, (fits-up (raised c.before.before).before).1.0))
-    returns-11
-    (λ c. search rules)
-    (λ c κs. (omega arith, (fits_count c.before).0.0))
-    (λ c κs. omega (arith, c.count10.ensures, (fits_count (limited c)).0))
-    (λ c κs. search rules)
-    (λ c κs. search rules)
-    (λ c κs. let f = fits_count (limited c.before.before.before) in (f.1.1.0, f.1.1.1.0))
-    returns-12)
+    returns-9)

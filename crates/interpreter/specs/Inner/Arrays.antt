@@ -2,10 +2,10 @@
 use Rattle.std.specs.Prelude.{◌≡◌, Bool, true, false, cond, List, [], ◌∷◌, ℕ, ◌≤◌, ℤ, length, get_or, take}
 use Rattle.std.proofs.Math.Option.{Option, none, some}
 use Rattle.std.proofs.Math.Seq.{slice}
-use Rattle.model.specs.Language.{Field, tape, output, variable, counter, target, limit, constant, fields}
+use Rattle.model.specs.Language.{Field, tape, output, variable, target, constant, fields}
 use Rattle.model.specs.Machine.{State, step_by, Exit, exit_if, exit_by}
 use Rattle.flow.specs.Words.{count, at, built}
-use Rattle.flow.specs.Limits.{max_tapes, max_variables, max_counters}
+use Rattle.flow.specs.Limits.{max_tapes, max_variables}
 use Rattle.flow.specs.declared.Flow.{Flow as Rows}
 use Rattle.flow.specs.declared.Instruction.{Instruction as Row}
 use Rattle.flow.specs.declared.Kind.{Kind}
@@ -19,14 +19,9 @@ left_in row [] ends = []
 left_in row (a ∷ at) [] = []
 left_in row (a ∷ at) (e ∷ ends) = slice a e row ∷ left_in row at ends
 
--- the state that the code holds: always four variables, three tapes and two counters, and no set of ended tapes
-abbrev pub held : ℕ → List ℤ → List ℤ → (at ends counters : List ℕ) → State
-held next row variables at ends counters =
-    record { next = next; variables = variables; left = left_in row at ends; ended = []; counters = counters }
-
--- no counter exceeds n
-abbrev pub AtMost : ℕ → List ℕ → Type 0
-AtMost n counters = (i : ℕ) → get_or counters i 0 ≤ n
+-- the state that the code holds: always four variables and three tapes, and no set of ended tapes
+abbrev pub held : ℕ → List ℤ → List ℤ → (at ends : List ℕ) → State
+held next row variables at ends = record { next = next; variables = variables; left = left_in row at ends; ended = [] }
 
 -- the places and ends of three tapes, which end in the row
 pub record Placed (row : List ℤ) (at ends : List ℕ) : Type 0 where
@@ -34,23 +29,20 @@ pub record Placed (row : List ℤ) (at ends : List ℕ) : Type 0 where
   pub three : length ends ≡ max_tapes
   pub within : (i : ℕ) → get_or ends i 0 ≤ length row
 
--- fields that name tapes 1 to t, variables 1 to v and counters 1 to z, and count from 1; a row names three tapes, four variables and two
--- counters at most
-abbrev pub FieldFits : (t v z : ℕ) → Field → Type 0
-FieldFits t v z (tape n) = (1 ≤ n) × (n ≤ t)
-FieldFits t v z (output n) = (1 ≤ n) × (n ≤ 255)
-FieldFits t v z (variable n) = (1 ≤ n) × (n ≤ v)
-FieldFits t v z (counter n) = (1 ≤ n) × (n ≤ z)
-FieldFits t v z (target n) = 1 ≤ n
-FieldFits t v z (limit c) = Unit {0}
-FieldFits t v z (constant c) = Unit {0}
+-- fields that name tapes 1 to t and variables 1 to v, and count from 1; a row names three tapes and four variables at most
+abbrev pub FieldFits : (t v : ℕ) → Field → Type 0
+FieldFits t v (tape n) = (1 ≤ n) × (n ≤ t)
+FieldFits t v (output n) = (1 ≤ n) × (n ≤ 255)
+FieldFits t v (variable n) = (1 ≤ n) × (n ≤ v)
+FieldFits t v (target n) = 1 ≤ n
+FieldFits t v (constant c) = Unit {0}
 
-abbrev pub FieldsFit : (t v z : ℕ) → List Field → Type 0
-FieldsFit t v z [] = Unit {0}
-FieldsFit t v z (f ∷ fs) = FieldFits t v z f × FieldsFit t v z fs
+abbrev pub FieldsFit : (t v : ℕ) → List Field → Type 0
+FieldsFit t v [] = Unit {0}
+FieldsFit t v (f ∷ fs) = FieldFits t v f × FieldsFit t v fs
 
 unfoldable pub RowFits : Row → Type 0
-RowFits x = FieldsFit max_tapes max_variables max_counters (fields (instruction_of x))
+RowFits x = FieldsFit max_tapes max_variables (fields (instruction_of x))
 
 -- the kinds that end a run, and that put
 abbrev any : List Output → Bool
@@ -61,7 +53,7 @@ abbrev pub stops : Kind → Bool
 stops k = is_stop (built k [])
 
 abbrev pub outputs : Kind → Bool
-outputs k = any (puts_by (built k []) (held 0 [] [] [] [] []))
+outputs k = any (puts_by (built k []) (held 0 [] [] [] []))
 
 -- the number in place j of a row, as a count
 abbrev pub count_at : Row → ℕ → ℕ
@@ -80,11 +72,11 @@ exit_when true first = some (exit_if first)
 exit_when false first = none
 
 -- one step of the machine on what the code holds, and where it goes on
-pub record Stepped (x : Row) (row : List ℤ) (ends : List ℕ) (vs : List ℤ) (at cs : List ℕ) (vs' : List ℤ) (at' cs' : List ℕ) (went : Onward) : Type 0 where
-  pub state : (n : ℕ) → step_by (instruction_of x) (held n row vs at ends cs) ≡ held went.next row vs' at' ends cs'
-  pub exit : (n : ℕ) → exit_by (instruction_of x) (held n row vs at ends cs) ≡ exit_when (branches x.kind) went.first
+pub record Stepped (x : Row) (row : List ℤ) (ends : List ℕ) (vs : List ℤ) (at : List ℕ) (vs' : List ℤ) (at' : List ℕ) (went : Onward) : Type 0 where
+  pub state : (n : ℕ) → step_by (instruction_of x) (held n row vs at ends) ≡ held went.next row vs' at' ends
+  pub exit : (n : ℕ) → exit_by (instruction_of x) (held n row vs at ends) ≡ exit_when (branches x.kind) went.first
   pub kept : length at' ≡ length at
 
 -- the run on the tapes that stand at these places
-unfoldable pub held_run : Rows → (cells most : ℕ) → List ℤ → (at ends : List ℕ) → Outcome
-held_run flow cells most row at ends = limited (flow_of flow) (some cells) most (begin (flow_of flow) (take flow.tapes (left_in row at ends)))
+unfoldable pub held_run : Rows → (cells limit : ℕ) → List ℤ → (at ends : List ℕ) → Outcome
+held_run flow cells limit row at ends = limited (flow_of flow) (some cells) limit (begin (flow_of flow) (take flow.tapes (left_in row at ends)))

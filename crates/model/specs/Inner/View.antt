@@ -1,8 +1,8 @@
--- The twelve instructions as seven kinds: reads, sets, tests, goes on, stops, ticks a counter, limits a counter. A term is a variable or a constant;
--- variables, tapes and counters are lanes, counted from 0. And what the theory asks of a flow.
-use Rattle.std.specs.Prelude.{List, ℕ, ◌+◌, ◌-◌, ◌<◌, ◌≤◌, ℤ, pos, get_or}
+-- The nine instructions as five kinds: reads, sets, tests, goes on, stops. A term is a variable or a constant; variables and tapes are lanes,
+-- counted from 0. And what the theory asks of a flow.
+use Rattle.std.specs.Prelude.{List, ℕ, ◌-◌, ◌<◌, ◌≤◌, ℤ, pos, get_or}
 use Rattle.graph.specs.Lists.{In}
-use Rattle.model.specs.Language.{Instruction, read, put, copy, const, less, over, under, nop, stop, reset, raise, fewer, Flow, instruction, Field, tape, output, variable, counter, target, limit, constant, fields, constants}
+use Rattle.model.specs.Language.{Instruction, read, put, copy, const, less, over, under, nop, stop, Flow, instruction, Field, tape, output, variable, target, constant, fields, constants}
 use Rattle.model.specs.Inner.Lists.{All}
 use Rattle.model.specs.Inner.Integers.{Inside}
 
@@ -10,22 +10,12 @@ pub data Term : Type 0 where
   held : ℕ → Term
   literal : ℤ → Term
 
--- what a counter becomes: 0, or one more
-pub data Tick : Type 0 where
-  back on : Tick
-
-abbrev pub ticked : Tick → ℕ → ℕ
-ticked back k = 0
-ticked on k = k + 1
-
 pub data View : Type 0 where
   reads : (a v p m : ℕ) → View
   sets : (t : Term) (v n : ℕ) → View
   tests : (x y : Term) (p m : ℕ) → View
   goes : (n : ℕ) → View
   stops : View
-  ticks : (t : Tick) (z n : ℕ) → View
-  limits : (z c p m : ℕ) → View
 
 abbrev pub view : Instruction → View
 view (read a v p m) = reads (a - 1) (v - 1) p m
@@ -37,9 +27,6 @@ view (over c v p m) = tests (literal c) (held (v - 1)) p m
 view (under v c p m) = tests (held (v - 1)) (literal c) p m
 view (nop n) = goes n
 view stop = stops
-view (reset z n) = ticks back (z - 1) n
-view (raise z n) = ticks on (z - 1) n
-view (fewer z c p m) = limits (z - 1) c p m
 
 -- the view of instruction number i
 abbrev pub view_at : Flow → ℕ → View
@@ -53,14 +40,12 @@ abbrev pub term : List ℤ → Term → ℤ
 term l (held u) = lane_value l u
 term l (literal c) = c
 
--- what the theory asks of a flow: it names its own tapes, variables and counters, counted from 1, and its constants and 0 lie from lo to hi
+-- what the theory asks of a flow: it names its own tapes and variables, counted from 1, and its constants and 0 lie from lo to hi
 abbrev pub Numbered : Flow → Field → Type 0
 Numbered flow (tape a) = (0 < a) × (a ≤ flow.tapes)
 Numbered flow (output y) = Unit {0}
 Numbered flow (variable v) = (0 < v) × (v ≤ flow.variables)
-Numbered flow (counter z) = (0 < z) × (z ≤ flow.counters)
 Numbered flow (target n) = Unit {0}
-Numbered flow (limit c) = Unit {0}
 Numbered flow (constant c) = Unit {0}
 
 pub record LegalFlow (lo hi : ℤ) (flow : Flow) : Type 0 where
@@ -75,5 +60,3 @@ Targeted P (sets t v n) = P n
 Targeted P (tests x y p m) = P p × P m
 Targeted P (goes n) = P n
 Targeted P stops = Unit {0}
-Targeted P (ticks t z n) = P n
-Targeted P (limits z c p m) = P p × P m

@@ -1,4 +1,4 @@
--- All lines as the code reads them: the counters of line 1, the lowest line with a lost target, the rows that are kept, and the answer by them.
+-- All lines as the code reads them: the lowest line with a lost target, the rows that are kept, and the answer by them.
 use Rattle.std.specs.Prelude.{cond, List, map, ℕ, eqb, take}
 use Rattle.std.proofs.Math.Option.{Option, none, some}
 use Rattle.model.specs.Language.{Instruction}
@@ -12,17 +12,11 @@ use Rattle.flow.specs.declared.Answer.{Answer}
 use Rattle.flow.specs.declared.Answer.TheVariants.{Legal, Refused}
 use Rattle.flow.specs.declared.Refusal.TheVariants.{NoInstruction, NoSuchTarget}
 use Rattle.flow.specs.declared.Reading.{Reading}
-use Rattle.reader.specs.declared.lines.Counters.{Counters}
-use Rattle.reader.specs.declared.lines.Counters.TheVariants.{Declared, Fault as CountersFault}
 use Rattle.reader.specs.declared.lines.Targets.{Targets}
 use Rattle.reader.specs.declared.lines.Targets.TheVariants.{Named, Lost}
 use Rattle.reader.specs.declared.lines.Lines.{Lines}
 
 -- the code's answers, as the definitions have them
-abbrev pub counters_in : Counters → Checked ℕ
-counters_in (Declared z) = ok z
-counters_in (CountersFault r) = fault r
-
 abbrev pub lost_in : Targets → Option ℕ
 lost_in Named = none
 lost_in (Lost line) = some line
@@ -44,7 +38,7 @@ unfoldable pub judged : Head → ℕ → List Row → Option ℕ → Reading
 judged h count rows none =
     record {
       answer = Legal;
-      flow = record { tapes = h.tapes; outputs = h.outputs; variables = h.variables; counters = h.counters; count = count; instructions = rows };
+      flow = record { tapes = h.tapes; outputs = h.outputs; variables = h.variables; count = count; instructions = rows };
     }
 judged h count rows (some line) = reading_of (fault (NoSuchTarget line))
 

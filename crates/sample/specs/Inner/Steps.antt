@@ -7,7 +7,7 @@ use Rattle.configuration.specs.Inner.Step.{ended_of}
 use Rattle.configuration.specs.declared.Words.{Words}
 use Rattle.configuration.specs.declared.Op.{Op}
 use Rattle.configuration.specs.declared.Action.{Action}
-use Rattle.configuration.specs.declared.Action.TheVariants.{Read, Assign, Test, Go, Stop, Tick, Limit}
+use Rattle.configuration.specs.declared.Action.TheVariants.{Read, Assign, Test, Go, Stop}
 use Rattle.pattern_word.specs.Inner.Span.{real}
 use Rattle.search_table.specs.Inner.Way.{is_read}
 use Rattle.sample_row.specs.Inner.Choices.{chosen}
@@ -34,8 +34,6 @@ values_by Assign lo op values = set values op.variable (term_in lo op values op.
 values_by Test lo op values = values
 values_by Go lo op values = values
 values_by Stop lo op values = values
-values_by Tick lo op values = values
-values_by Limit lo op values = values
 
 -- the walk after such a step
 unfoldable pub quiet_walk : (lo : ℤ) → Op → Walk → Walk

@@ -2,7 +2,7 @@
 -- record goes behind those of its tape and to its variable. Tapes and variables are counted from 0 here.
 use Rattle.std.specs.Prelude.{List, [], ◌∷◌, map, ℕ, suc, ◌+◌, ◌<◌, ℤ, pos, length, get_or, set, replicate}
 use Rattle.model.specs.Inner.Lists.{All}
-use Rattle.model.specs.Inner.View.{View, reads, sets, tests, goes, stops, ticks, limits, term}
+use Rattle.model.specs.Inner.View.{View, reads, sets, tests, goes, stops, term}
 use Rattle.flow.specs.Limits.{max_tapes, max_variables}
 use Rattle.sample_row.specs.Inner.Moves.{moved, Movable}
 use Rattle.sample_row.specs.Inner.Layout.{tapes_at, on_parts, Apart}
@@ -50,8 +50,6 @@ silent_values (sets t v n) values = set values v (term values t)
 silent_values (tests x y p m) values = values
 silent_values (goes n) values = values
 silent_values stops values = values
-silent_values (ticks t z n) values = values
-silent_values (limits z c p m) values = values
 
 abbrev pub silent_after : View → Walk → Walk
 silent_after w walk = record { values = silent_values w walk.values; counts = walk.counts; starts = walk.starts }

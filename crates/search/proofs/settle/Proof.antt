@@ -5,13 +5,13 @@ use native.Mathlib.Omega.{arith}
 use borrow.Author.Rules.{rules}
 use borrow.Author.Tests.{not-true, not-false}
 use Rattle.configuration.specs.Inner.Step.{goes_on_of}
-use Rattle.configuration.proofs.WordExits.{goes-on_free}
+use Rattle.configuration.proofs.WordExits.{goes_on_free}
 use Rattle.cells.specs.Inner.Columns.{columns_of}
 use Rattle.cells.specs.Inner.Entries.{entries_of}
 use Rattle.search_table.specs.Inner.Table.{words_at}
 use Rattle.search_visit.specs.Inner.Fan.{FanFits}
 use Rattle.search_visit.proofs.Fanning.{shut_answer, next-answer}
-use Rattle.search.proofs.Exploring.{entry-room, goes-on_shut, settle_none, expand_every, expanded_by}
+use Rattle.search.proofs.Exploring.{entry-room, goes_on_shut, settle_none, expand_every, expanded_by}
 use Rattle.search.proofs.settle.Statement.{statement}
 use Rattle.search.proofs.settle.Tie as tie
 
@@ -60,8 +60,8 @@ returns-2 c =
     let stepped = v.before.before in
     let g = stepped.before in
     expanded_by _ _ _ _ _ _ _ _ _
-    (expand_every _ _ _ _ _ _ _ _ _ (goes-on_free _ (going_on g)) _
-    (next-answer (fine g) _ _ _ _ _ _ _ (shut_answer (fine g) (start g).requires.1.0 _ _ (goes-on_shut _ _ (going_on g))) refl stepped.follow.ensures _ _
+    (expand_every _ _ _ _ _ _ _ _ _ (goes_on_free _ (going_on g)) _
+    (next-answer (fine g) _ _ _ _ _ _ _ (shut_answer (fine g) (start g).requires.1.0 _ _ (goes_on_shut _ _ (going_on g))) refl stepped.follow.ensures _ _
     v.visit.ensures.1 v.visit.ensures.0 c.after-visit.ensures)) (same g) (omega (arith, g.get.ensures))
 
 pub settle-spec : {M : Type 1} → statement M

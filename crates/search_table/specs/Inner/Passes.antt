@@ -4,7 +4,6 @@ use Rattle.model.specs.Language.{Flow, instruction}
 use Rattle.model.specs.Machine.{Exit, p_exit, m_exit}
 use Rattle.flow.specs.Limits.{max_instructions}
 use Rattle.configuration.specs.Inner.Place.{words, at_of}
-use Rattle.constants.specs.Inner.Caps.{caps_of}
 use Rattle.configuration.specs.Inner.Op.{read_op, op_of}
 use Rattle.configuration.specs.Inner.Step.{takes_of}
 use Rattle.configuration.specs.declared.Op.{Op}
@@ -20,7 +19,7 @@ blank = read_op 0 0 0 0
 
 -- ops are the flow's instructions, prepared: instruction i stands at i - 1, and past the flow's last stands `stop`
 pub record Prepared (lo : ℤ) (flow : Flow) (ops : List Op) : Type 0 where
-  pub each : (i : ℕ) → i < max_instructions → get_or ops i blank ≡ op_of lo (caps_of flow) (instruction flow (suc i))
+  pub each : (i : ℕ) → i < max_instructions → get_or ops i blank ≡ op_of lo (instruction flow (suc i))
 
 -- words stand at an instruction of such an array
 pub record Stands (place : ℕ) : Type 0 where

@@ -7,7 +7,7 @@ use Rattle.configuration.specs.Inner.Step.{ended_of}
 use Rattle.configuration.specs.declared.Words.{Words}
 use Rattle.configuration.specs.declared.Op.{Op}
 use Rattle.configuration.specs.declared.Action.{Action}
-use Rattle.configuration.specs.declared.Action.TheVariants.{Read, Assign, Test, Go, Stop, Tick, Limit}
+use Rattle.configuration.specs.declared.Action.TheVariants.{Read, Assign, Test, Go, Stop}
 use Rattle.cells.specs.Cells.{most_cells}
 use Rattle.cells.specs.Inner.Entries.{Entries}
 use Rattle.search_table.specs.Inner.Table.{words_at}
@@ -37,8 +37,6 @@ is_read Assign = false
 is_read Test = false
 is_read Go = false
 is_read Stop = false
-is_read Tick = false
-is_read Limit = false
 
 -- the records of each tape, with those of a step of op that takes its exit p or not
 unfoldable pub counted_of : List ℕ → Op → Bool → List ℕ

@@ -22,12 +22,6 @@ returns-4 c = opens_by_lem _ _ _ _ c.enum-told4.given.1 refl
 returns-5 : tie.Need-returns-5
 returns-5 c = opens_by_lem _ _ _ _ c.enum-told5.given.1 refl
 
-returns-6 : tie.Need-returns-6
-returns-6 c = opens_by_lem _ _ _ _ c.enum-told6.given.1 refl
-
-returns-7 : tie.Need-returns-7
-returns-7 c = opens_by_lem _ _ _ _ c.enum-told7.given.1 refl
-
 pub opens-spec : {M : Type 1} → statement M
 opens-spec =
     tie.close
@@ -42,8 +36,4 @@ opens-spec =
     (λ c. search)
     returns-4
     (λ c. search)
-    returns-5
-    (λ c. search)
-    returns-6
-    (λ c. search)
-    returns-7)
+    returns-5)

@@ -10,7 +10,7 @@ use Rattle.configuration.specs.Inner.Graph.{WordEdge}
 use Rattle.configuration.specs.declared.Words.{Words}
 use Rattle.configuration.specs.declared.Op.{Op}
 use Rattle.configuration.specs.declared.Action.{Action}
-use Rattle.configuration.specs.declared.Action.TheVariants.{Read, Assign, Test, Go, Stop, Tick, Limit}
+use Rattle.configuration.specs.declared.Action.TheVariants.{Read, Assign, Test, Go, Stop}
 use Rattle.cells.specs.Inner.Columns.{marks_field, column, Rows, columns_of}
 use Rattle.cells.specs.Inner.Entries.{Entries, entries_of, Filled}
 use Rattle.cells.specs.Inner.Marks.{is_marked, Unmarked}
@@ -64,8 +64,6 @@ opens_by Assign op x = false
 opens_by Test op x = false
 opens_by Go op x = false
 opens_by Stop op x = false
-opens_by Tick op x = false
-opens_by Limit op x = false
 
 unfoldable pub opens_of : Op → Words → Bool
 opens_of op x = opens_by op.action op x

@@ -20,7 +20,7 @@ use Rattle.tape_maker.specs.declared.planning.Plan.{Plan}
 unfoldable pub exits_in : Row → Bool
 exits_in x = has_exits (instruction_of x)
 
--- rows whose numbers that name a part fit a byte
+-- rows whose numbers that count fit a byte
 abbrev pub AllFitBytes : List Row → (count : ℕ) → Type 0
 AllFitBytes rows count = (i : ℕ) → i < count → FitBytes (get_or rows i (row_of stop))
 

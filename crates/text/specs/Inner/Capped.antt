@@ -10,10 +10,10 @@ abbrev pub cap : ℕ
 cap = 10000000000
 
 -- a size above the cap is given as the cap, with its sign
-unfoldable pub cut_off : ℤ → ℤ
-cut_off (pos n) = pos (min n cap)
-cut_off (negsuc n) = negsuc (min n (cap - 1))
+unfoldable pub capped : ℤ → ℤ
+capped (pos n) = pos (min n cap)
+capped (negsuc n) = negsuc (min n (cap - 1))
 
 unfoldable pub capped_number : Option ℤ → Number
 capped_number none = Bad
-capped_number (some z) = Value (cut_off z)
+capped_number (some z) = Value (capped z)

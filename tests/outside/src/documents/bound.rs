@@ -1,4 +1,4 @@
-//! How many cells are enough: document 02, T-01 and, for the counters, T-10.
+//! How many cells are enough: document 02, T-01.
 
 use super::flow::{Flow, Refusal};
 use super::reader::read;
@@ -8,7 +8,7 @@ use std::collections::HashSet;
 /// A bound that exceeds this is over.
 const MOST: u128 = 65_536;
 
-/// A bound is listed too if there are at most so many choices of values, those of the counters among them.
+/// A bound is listed too if there are at most so many choices of values.
 const LISTED: u64 = 350;
 
 /// The number of patterns of so many variables with w numbers from C1 to C2, as T-01 has it.
@@ -39,27 +39,14 @@ pub fn patterns_listed(variables: usize, low: i64, high: i64) -> u128 {
 }
 
 /// Instructions, times 2 to the power T, times the number of patterns: also past 65,536.
-pub fn without_counters(flow: &Flow) -> u128 {
-    let (low, high) = flow.bounds();
-    let w = (high - low + 1) as u64;
-    flow.instructions.len() as u128 * 2u128.pow(flow.tapes as u32) * patterns(flow.variables, u128::from(w))
-}
-
-/// The same, times the largest c plus 1 for each counter declared.
 pub fn exact(flow: &Flow) -> u128 {
     let (low, high) = flow.bounds();
     let w = (high - low + 1) as u64;
-    let largest = flow.largest();
-    let by_formula = largest.iter().fold(without_counters(flow), |bound, c| bound * (u128::from(*c) + 1));
-    let choices = (w + 2 * flow.variables as u64).saturating_pow(flow.variables as u32);
-    if largest.iter().fold(choices, |choices, c| choices.saturating_mul(c + 1)) <= LISTED {
+    let by_formula = flow.instructions.len() as u128 * 2u128.pow(flow.tapes as u32) * patterns(flow.variables, u128::from(w));
+    if (w + 2 * flow.variables as u64).saturating_pow(flow.variables as u32) <= LISTED {
         let sets = (0..8u8).filter(|set| set >> flow.tapes == 0).count();
         let places = flow.instructions.iter().flat_map(|_| 0..sets).count() as u128;
-        // What a counter is taken as: 0 up to its largest c.
-        let taken = |z: usize| 0..=largest.get(z).copied().unwrap_or(0);
-        let counted = taken(0).flat_map(|_| taken(1)).count() as u128;
-        let listed = places * counted * patterns_listed(flow.variables, low, high);
-        assert_eq!(listed, by_formula, "a bound by listing and by formula: {flow:?}");
+        assert_eq!(places * patterns_listed(flow.variables, low, high), by_formula, "a bound by listing and by formula: {flow:?}");
     }
     by_formula
 }

@@ -1,4 +1,4 @@
-//! A flow, as document 01 describes it ("The flow text"), with the counters of document 02 (T-10), and a refusal.
+//! A flow, as document 01 describes it ("The flow text"), and a refusal.
 
 /// The number and the place of document 01's table "Where a request is turned back", as document 02 (T-02, T-08) changes it: with 13, 14
 /// and 15, and without 4 and 2.
@@ -8,7 +8,7 @@ pub struct Refusal {
     pub place: u64,
 }
 
-/// Tapes, outputs, variables, counters and targets count from 1.
+/// Tapes, outputs, variables and targets count from 1.
 #[derive(Clone, Copy, Debug, PartialEq, Eq)]
 pub enum Instruction {
     Read { tape: usize, v: usize, p: usize, m: usize },
@@ -20,9 +20,6 @@ pub enum Instruction {
     Under { v: usize, c: i64, p: usize, m: usize },
     Nop { n: usize },
     Stop,
-    Zero { z: usize, n: usize },
-    Up { z: usize, n: usize },
-    Count { z: usize, c: u64, p: usize, m: usize },
 }
 
 #[derive(Clone, Debug, PartialEq, Eq)]
@@ -30,7 +27,6 @@ pub struct Flow {
     pub tapes: usize,
     pub outputs: usize,
     pub variables: usize,
-    pub counters: usize,
     pub instructions: Vec<Instruction>,
 }
 
@@ -41,8 +37,7 @@ impl Instruction {
             Instruction::Read { p, m, .. }
             | Instruction::Less { p, m, .. }
             | Instruction::Over { p, m, .. }
-            | Instruction::Under { p, m, .. }
-            | Instruction::Count { p, m, .. } => Some((p, m)),
+            | Instruction::Under { p, m, .. } => Some((p, m)),
             _ => None,
         }
     }
@@ -51,7 +46,6 @@ impl Instruction {
     pub fn targets(&self) -> Vec<usize> {
         match *self {
             Instruction::Put { n, .. } | Instruction::Copy { n, .. } | Instruction::Set { n, .. } | Instruction::Nop { n } => vec![n],
-            Instruction::Zero { n, .. } | Instruction::Up { n, .. } => vec![n],
             Instruction::Stop => vec![],
             _ => self.exits().map_or(vec![], |(p, m)| vec![p, m]),
         }
@@ -63,17 +57,15 @@ impl Instruction {
             Instruction::Put { n, .. } | Instruction::Copy { n, .. } | Instruction::Set { n, .. } | Instruction::Nop { n } => {
                 *n = other(*n)
             }
-            Instruction::Zero { n, .. } | Instruction::Up { n, .. } => *n = other(*n),
             Instruction::Read { p, m, .. }
             | Instruction::Less { p, m, .. }
             | Instruction::Over { p, m, .. }
-            | Instruction::Under { p, m, .. }
-            | Instruction::Count { p, m, .. } => (*p, *m) = (other(*p), other(*m)),
+            | Instruction::Under { p, m, .. } => (*p, *m) = (other(*p), other(*m)),
             Instruction::Stop => {}
         }
     }
 
-    /// The constant that stands in it. The c of `count` is none (document 02, T-10).
+    /// The constant that stands in it.
     pub fn constant(&self) -> Option<i64> {
         match *self {
             Instruction::Set { c, .. } | Instruction::Over { c, .. } | Instruction::Under { c, .. } => Some(c),
@@ -89,17 +81,6 @@ impl Flow {
         (constants().fold(0, i64::min), constants().fold(0, i64::max))
     }
 
-    /// The largest c of each counter, over all lines; 0 for a counter that has no `count`.
-    pub fn largest(&self) -> Vec<u64> {
-        let mut largest = vec![0; self.counters];
-        for instruction in &self.instructions {
-            if let Instruction::Count { z, c, .. } = *instruction {
-                largest[z - 1] = c.max(largest[z - 1]);
-            }
-        }
-        largest
-    }
-
     /// Whether instruction number `instruction` exists and has two exits.
     pub fn has_exits(&self, instruction: u64) -> bool {
         (1..=self.instructions.len() as u64).contains(&instruction) && self.instructions[instruction as usize - 1].exits().is_some()
@@ -108,8 +89,7 @@ impl Flow {
     /// The text of a legal flow by document 01, "The flow text". It is the only text of the flow, but for one flow: that of one tape, no
     /// outputs, one variable and the single instruction `stop` has the empty text too (document 02, T-08), which is not given here.
     pub fn text(&self) -> String {
-        let counters = if self.counters == 0 { String::new() } else { format!(",{}", self.counters) };
-        let mut text = format!("flow,{},{},{}{counters}\n", self.tapes, self.outputs, self.variables);
+        let mut text = format!("flow,{},{},{}\n", self.tapes, self.outputs, self.variables);
         for (number, instruction) in (1..).zip(&self.instructions) {
             text += &match instruction {
                 Instruction::Read { tape, v, p, m } => format!("{number},read,{tape},{v},{p},{m}\n"),
@@ -121,9 +101,6 @@ impl Flow {
                 Instruction::Under { v, c, p, m } => format!("{number},under,{v},{c},{p},{m}\n"),
                 Instruction::Nop { n } => format!("{number},nop,{n}\n"),
                 Instruction::Stop => format!("{number},stop\n"),
-                Instruction::Zero { z, n } => format!("{number},zero,{z},{n}\n"),
-                Instruction::Up { z, n } => format!("{number},up,{z},{n}\n"),
-                Instruction::Count { z, c, p, m } => format!("{number},count,{z},{c},{p},{m}\n"),
             };
         }
         text

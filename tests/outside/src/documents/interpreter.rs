@@ -1,4 +1,4 @@
-//! A run of a flow on given tapes: document 01, "Runs", with the counters of document 02 (T-10).
+//! A run of a flow on given tapes: document 01, "Runs".
 
 use super::flow::{Flow, Instruction, Refusal};
 
@@ -13,8 +13,7 @@ pub enum End {
 }
 
 /// The answer of a run: how it ended, the steps done, the puts done (output tape and value), and how often exit p and exit m of
-/// instruction i was taken, at i - 1. What the counters came to is no part of an answer: `highest`, the greatest value that one had, is kept
-/// for the tests only.
+/// instruction i was taken, at i - 1.
 #[derive(Clone, Debug, PartialEq, Eq)]
 pub struct Ran {
     pub end: End,
@@ -22,7 +21,6 @@ pub struct Ran {
     pub puts: Vec<(u8, i32)>,
     pub p: Vec<u32>,
     pub m: Vec<u32>,
-    pub highest: u64,
 }
 
 /// A run, `free` being the length of the shorter output row; refusal 12 unless T lengths are given that add up to the row.
@@ -42,8 +40,7 @@ pub fn run(flow: &Flow, limit: u64, records: &[i32], lengths: &[usize], free: us
     let limit = limit.min(LIMIT);
     let count = flow.instructions.len();
     let mut held = vec![0i32; flow.variables];
-    let mut counters = vec![0u64; flow.counters];
-    let mut ran = Ran { end: End::Stopped, steps: 0, puts: Vec::new(), p: vec![0; count], m: vec![0; count], highest: 0 };
+    let mut ran = Ran { end: End::Stopped, steps: 0, puts: Vec::new(), p: vec![0; count], m: vec![0; count] };
     let mut at = 1;
     loop {
         let instruction = flow.instructions[at - 1];
@@ -95,16 +92,6 @@ pub fn run(flow: &Flow, limit: u64, records: &[i32], lengths: &[usize], free: us
             Instruction::Under { v, c, p, m } => branch(i64::from(held[v - 1]) < c, p, m),
             Instruction::Nop { n } => n,
             Instruction::Stop => unreachable!("a run ends at stop"),
-            Instruction::Zero { z, n } => {
-                counters[z - 1] = 0;
-                n
-            }
-            Instruction::Up { z, n } => {
-                counters[z - 1] += 1;
-                ran.highest = ran.highest.max(counters[z - 1]);
-                n
-            }
-            Instruction::Count { z, c, p, m } => branch(counters[z - 1] < c, p, m),
         };
     }
 }

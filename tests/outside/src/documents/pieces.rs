@@ -1,6 +1,5 @@
 //! The test pieces of document 01 ("Test pieces"), cases `-0` and 1001 as document 02 (T-02, T-09) has them, flow A ("The report"), and of
-//! document 02 the bounds (T-01), distances in exits (T-04), the nine pairs (T-05), the empty text (T-08), the constants up to 9999 (T-09) and
-//! the counters (T-10).
+//! document 02 the bounds (T-01), distances in exits (T-04), the nine pairs (T-05), the empty text (T-08) and the constants up to 9999 (T-09).
 
 use super::bound::{bound, exact, line, patterns, patterns_listed};
 use super::flow::{Flow, Instruction, Refusal};
@@ -156,9 +155,9 @@ fn borders() {
         ("flow\n1,stop\n", (14, 1)),
         ("flow,\n1,stop\n", (14, 1)),
         ("flow,1,0\n1,stop\n", (14, 1)),
-        ("flow,1,0,1,1,\n1,stop\n", (14, 1)),
+        ("flow,1,0,1,\n1,stop\n", (14, 1)),
         ("flow,x,-0\n1,stop\n", (14, 1)),
-        ("flow,1,0,01,1,1\n1,stop\n", (14, 1)),
+        ("flow,1,0,01,1\n1,stop\n", (14, 1)),
         ("flow,4,0\n1,stop\n", (14, 1)),
         // Line 1: a number badly written, then one out of range.
         ("flow,1,0,x\n", (15, 1)),
@@ -289,7 +288,7 @@ fn reports() {
     for text in [FLOW_A, FLOW_B, CHAIN, SECOND, UNDER, LESS] {
         let flow = flow(text);
         let census = census(&flow, 4096).expect("few configurations");
-        assert_eq!(by_numbers(&flow, i64::from(census.depth) + 1), Some(census));
+        assert_eq!(by_numbers(&flow, i64::from(census.depth) + 1), census);
     }
 }
 
@@ -314,7 +313,7 @@ fn nine() {
     let flow = flow(NINE);
     let found = census(&flow, 4096).expect("few configurations");
     assert_eq!(found.pairs.len(), 15, "six unlike pairs, and three like ones in each order");
-    assert_eq!(by_numbers(&flow, i64::from(found.depth) + 1), Some(found));
+    assert_eq!(by_numbers(&flow, i64::from(found.depth) + 1), found);
 }
 
 /// Two records above 9999, the second one less.
@@ -416,7 +415,7 @@ fn exits() {
         assert_eq!(lines(text.as_bytes(), 4096), report, "{text}");
         let flow = flow(&text);
         let found = census(&flow, 4096).expect("few configurations");
-        assert_eq!(by_numbers(&flow, 2), Some(found), "{text}");
+        assert_eq!(by_numbers(&flow, 2), found, "{text}");
     }
 
     let fewer = flow(FEWER);
@@ -550,7 +549,7 @@ fn samples() {
 
 /// The borders between the empty text, which is legal, and others of few bytes, few lines or one byte many times.
 fn about_empty() {
-    assert_eq!(flow(""), Flow { tapes: 1, outputs: 0, variables: 1, counters: 0, instructions: vec![Instruction::Stop] });
+    assert_eq!(flow(""), Flow { tapes: 1, outputs: 0, variables: 1, instructions: vec![Instruction::Stop] });
     assert_eq!(flow(STOP), flow(""));
     for text in ["\0", "\r", " ", ",", "f", "0", "\t", "\n ", "\n\0", "\u{feff}", "flow,1,0,1", "flow,1,0,1\n1,stop"] {
         assert_eq!(refused(text), (3, 0), "{text:?}");
@@ -583,7 +582,7 @@ fn of_empty() {
     let refuse = |number| Refusal { number, place: 0 };
     for (limit, free) in [(0, 0), (0, 1), (1, 0), (1_000_000, 0), (1_000_000, 3), (1_000_001, 0), (u64::MAX, 0)] {
         let on = |records: &[i32], lengths: &[usize]| run(&empty, limit, records, lengths, free);
-        let stopped = Ran { end: End::Stopped, steps: 0, puts: vec![], p: vec![0], m: vec![0], highest: 0 };
+        let stopped = Ran { end: End::Stopped, steps: 0, puts: vec![], p: vec![0], m: vec![0] };
         assert_eq!(on(&[], &[0]), Ok(stopped.clone()));
         assert_eq!(on(&[7], &[1]), Ok(stopped.clone()));
         assert_eq!(on(&[7, 8, 9], &[3]), Ok(stopped));
@@ -602,7 +601,7 @@ fn of_empty() {
     let found = Census { configurations: 1, p: vec![None], m: vec![None], depth: 0, pairs: Default::default() };
     assert_eq!(census(&empty, 1), Ok(found.clone()));
     assert_eq!(census(&empty, 0), Err(refuse(9)));
-    assert_eq!(by_numbers(&empty, 1).as_ref(), Some(&found));
+    assert_eq!(by_numbers(&empty, 1), found);
 
     for instruction in [0, 1, 2, 64, 65, 1 << 32, (1 << 32) + 1, u64::MAX] {
         for (exit_p, row) in [(true, 0), (false, 0), (true, 5), (false, 5)] {
@@ -610,295 +609,6 @@ fn of_empty() {
             assert_eq!(wanted(&empty, instruction, exit_p, Err(refuse(9)), row), Err(refuse(11)));
         }
     }
-}
-
-/// A loop that is left when a counter reaches c.
-fn rising(c: u64) -> String {
-    format!("flow,1,0,1,1\n1,up,1,2\n2,count,1,{c},1,3\n3,stop\n")
-}
-
-/// A loop of a rounds in a loop of b rounds, the inner counter set to 0 again.
-fn nested(a: u64, b: u64) -> String {
-    format!("flow,1,0,1,2\n1,up,1,2\n2,count,1,{a},1,3\n3,zero,1,4\n4,up,2,5\n5,count,2,{b},1,6\n6,stop\n")
-}
-
-/// The records are counted; at the end of the tape there are fewer than 3, or not, and then not fewer than 2.
-const RECORDS: &str = "flow,1,0,1,1\n1,read,1,1,2,3\n2,up,1,1\n3,count,1,3,4,5\n4,stop\n5,count,1,2,4,4\n";
-
-/// A record above 0 sets the counter to 0; two others in a row are wanted.
-const RESET: &str = "flow,1,0,1,1\n1,read,1,1,2,5\n2,up,1,3\n3,over,0,1,4,6\n4,zero,1,1\n5,stop\n6,count,1,2,1,7\n7,stop\n";
-
-/// Each record raises the counter. The c of the last line, which is not reached, is its largest.
-const UNREACHED: &str = "flow,1,0,1,1\n1,up,1,2\n2,read,1,1,1,3\n3,stop\n4,count,1,5,3,3\n";
-
-/// Line 1 with Z, and the words `zero`, `up` and `count`.
-fn counters_read() {
-    let long = "9".repeat(500);
-    for (line, refusal) in [
-        ("flow,1,0,1,1", None),
-        ("flow,3,3,4,2", None),
-        ("flow,1,0,1,0", Some(5)),
-        ("flow,1,0,1,3", Some(5)),
-        ("flow,1,0,1,257", Some(5)),
-        (&format!("flow,1,0,1,{long}"), Some(5)),
-        ("flow,4,0,1,3", Some(5)),
-        ("flow,4,0,1,1", Some(5)),
-        ("flow,1,0,1,", Some(15)),
-        ("flow,1,0,1,01", Some(15)),
-        ("flow,1,0,1,00", Some(15)),
-        ("flow,1,0,1,-1", Some(15)),
-        ("flow,1,0,1,-0", Some(15)),
-        ("flow,1,0,1,+1", Some(15)),
-        ("flow,1,0,1,1 ", Some(15)),
-        ("flow,1,0,1,x", Some(15)),
-        ("flow,4,0,1,x", Some(15)),
-        ("flow,1,0,x,3", Some(15)),
-        ("flow,1,0,01,1", Some(15)),
-        ("flow,1,0,1,1,1", Some(14)),
-        ("flow,1,0,1,1,", Some(14)),
-        ("flow,1,0,1,,", Some(14)),
-        ("flow,1,0,1,1,x", Some(14)),
-        ("flow,1,0,1,3,1", Some(14)),
-        ("flow,1,0,1,1,1,1", Some(14)),
-        ("Flow,1,0,1,1", Some(13)),
-        ("count,1,0,1,1,1", Some(13)),
-    ] {
-        let text = format!("{line}\n1,stop\n");
-        assert_eq!(read(text.as_bytes()).err(), refusal.map(|number| Refusal { number, place: 1 }), "{line}");
-    }
-    assert_eq!(refused("flow,1,0,1,1\n"), (8, 2));
-    assert_eq!((flow("flow,1,0,1,2\n1,stop\n").counters, flow(STOP).counters), (2, 0));
-
-    // Each as line 3 with no counter, one and two.
-    for (line, refusals) in [
-        ("2,zero,1,1", [5, 0, 0]),
-        ("2,up,1,1", [5, 0, 0]),
-        ("2,count,1,0,1,1", [5, 0, 0]),
-        ("2,count,1,1000,1,2", [5, 0, 0]),
-        ("2,zero,2,1", [5, 5, 0]),
-        ("2,up,2,1", [5, 5, 0]),
-        ("2,count,2,7,1,1", [5, 5, 0]),
-        ("2,zero,0,1", [5; 3]),
-        ("2,up,3,1", [5; 3]),
-        ("2,up,257,1", [5; 3]),
-        ("2,up,4294967297,1", [5; 3]),
-        ("2,count,3,7,1,1", [5; 3]),
-        ("2,count,1,1001,1,1", [5; 3]),
-        ("2,count,1,9999,1,1", [5; 3]),
-        ("2,count,1,65536,1,1", [5; 3]),
-        ("2,count,1,18446744073709551616,1,1", [5; 3]),
-        (&format!("2,count,1,{long},1,1"), [5; 3]),
-        ("2,count,1,1001,9,1", [5; 3]),
-        ("2,zero,1,9", [5, 7, 7]),
-        ("2,up,1,0", [5, 7, 7]),
-        ("2,count,1,1,1,3", [5, 7, 7]),
-        ("2,count,1,1,0,1", [5, 7, 7]),
-        ("2,count,1,-1,1,1", [15; 3]),
-        ("2,count,1,-0,1,1", [15; 3]),
-        ("2,count,1,-1000,1,1", [15; 3]),
-        ("2,count,1,-1001,1,1", [15; 3]),
-        ("2,count,1,01,1,1", [15; 3]),
-        ("2,count,1,00,1,1", [15; 3]),
-        ("2,count,1,+1,1,1", [15; 3]),
-        ("2,count,1,,1,1", [15; 3]),
-        ("2,count,-1,1,1,1", [15; 3]),
-        ("2,count,1,1,-1,1", [15; 3]),
-        ("2,count,1,1001,1,01", [15; 3]),
-        ("2,zero,-1,1", [15; 3]),
-        ("2,up,,1", [15; 3]),
-        ("2,up,01,1", [15; 3]),
-        ("9,count,1,-1,1,1", [15; 3]),
-        ("9,count,1,1001,1,1", [6; 3]),
-        ("9,up,3,1", [6; 3]),
-        ("2,zero,1", [14; 3]),
-        ("2,zero,1,1,1", [14; 3]),
-        ("2,up", [14; 3]),
-        ("2,up,1,1,1", [14; 3]),
-        ("2,count,1,1,1", [14; 3]),
-        ("2,count,1,-1,1,1,1", [14; 3]),
-        ("9,count,3,-1", [14; 3]),
-        ("2,Zero,1,1", [13; 3]),
-        ("2,ups,1,1", [13; 3]),
-        ("2,down,1,1", [13; 3]),
-        ("2,counts,1,1,1,1", [13; 3]),
-        ("2,coun,1,1,1,1", [13; 3]),
-        ("up,1,1", [13; 3]),
-        ("zero", [13; 3]),
-    ] {
-        for (z, number) in ["", ",1", ",2"].iter().zip(refusals) {
-            let text = format!("flow,1,0,1{z}\n1,nop,2\n{line}\n");
-            assert_eq!(read(text.as_bytes()).err(), (number > 0).then_some(Refusal { number, place: 3 }), "{text}");
-        }
-    }
-    let largest = |text: &str| flow(text).largest();
-    assert_eq!([largest(STOP), largest(&rising(7)), largest(UNREACHED)], [vec![], vec![7], vec![5]]);
-    assert_eq!(largest(&nested(1000, 0)), [1000, 0]);
-    assert_eq!(flow(&rising(1000)).bounds(), (0, 0), "c is no basic constant");
-}
-
-fn counters_run() {
-    for c in [1, 2, 3, 10, 1000] {
-        let ran = on_one_tape(&rising(c), 1_000_000, &[], 0);
-        assert_eq!((ran.end, ran.steps, ran.highest), (End::Stopped, 2 * c, c));
-        assert_eq!((ran.p, ran.m), (vec![0, c as u32 - 1, 0], vec![0, 1, 0]));
-        let ran = on_one_tape(&rising(c), 2 * c - 1, &[], 0);
-        assert_eq!((ran.end, ran.steps, ran.m[1]), (End::Spent, 2 * c - 1, 0));
-    }
-    // c = 0: after one step up, and with none.
-    let ran = on_one_tape(&rising(0), 100, &[], 0);
-    assert_eq!((ran.end, ran.steps, ran.p[1], ran.m[1]), (End::Stopped, 2, 0, 1));
-    let ran = on_one_tape("flow,1,0,1,2\n1,count,2,0,1,2\n2,count,2,1,3,1\n3,stop\n", 100, &[], 0);
-    assert_eq!((ran.end, ran.steps, ran.p, ran.m), (End::Stopped, 2, vec![0, 1, 0], vec![1, 0, 0]));
-
-    let ran = on_one_tape(&nested(2, 3), 100, &[], 0);
-    assert_eq!((ran.end, ran.steps, ran.p, ran.m), (End::Stopped, 21, vec![0, 3, 0, 0, 2, 0], vec![0, 3, 0, 0, 1, 0]));
-    let ran = on_one_tape(&nested(3, 1000), 1_000_000, &[], 0);
-    assert_eq!((ran.end, ran.steps, ran.p, ran.m), (End::Stopped, 9000, vec![0, 2000, 0, 0, 999, 0], vec![0, 1000, 0, 0, 1, 0]));
-
-    let counted = |records: &[i32]| {
-        let ran = on_one_tape(RECORDS, 100, records, 0);
-        (ran.end, ran.steps, ran.p, ran.m)
-    };
-    assert_eq!(counted(&[]), (End::Stopped, 2, vec![0, 0, 1, 0, 0], vec![1, 0, 0, 0, 0]));
-    assert_eq!(counted(&[7, 7]), (End::Stopped, 6, vec![2, 0, 1, 0, 0], vec![1, 0, 0, 0, 0]));
-    assert_eq!(counted(&[0, 0, 0]), (End::Stopped, 9, vec![3, 0, 0, 0, 0], vec![1, 0, 1, 0, 1]));
-    let ran = on_one_tape(RESET, 100, &[-1, 5, 0, 0, 9], 0);
-    assert_eq!((ran.end, ran.steps, ran.p, ran.m), (End::Stopped, 16, vec![4, 0, 1, 0, 0, 2, 0], vec![0, 0, 3, 0, 0, 1, 0]));
-
-    // Far past 1000: nothing but steps up, and then counts with c = 1000 after one, three and 63 of them, of which those that find less
-    // than 1000 are 999, 333 and 15.
-    let ran = on_one_tape("flow,1,0,1,1\n1,up,1,1\n", u64::MAX, &[], 0);
-    assert_eq!((ran.end, ran.steps, ran.highest), (End::Spent, 1_000_000, 1_000_000));
-    for (ups, limit, p, m, highest) in [
-        (1, 1_000_000, 999, 499_001, 500_000),
-        (1, 999_999, 999, 499_000, 500_000),
-        (3, 1_000_000, 333, 249_667, 750_000),
-        (63, 1_000_000, 15, 15_610, 984_375),
-        (63, 999_999, 15, 15_609, 984_375),
-    ] {
-        let lines = (1..=ups).map(|i| format!("{i},up,2,{}\n", i + 1)).collect::<String>();
-        let ran = on_one_tape(&format!("flow,1,0,1,2\n{lines}{},count,2,1000,1,1\n", ups + 1), limit, &[], 0);
-        assert_eq!((ran.end, ran.steps, ran.highest), (End::Spent, limit, highest));
-        assert_eq!((ran.p[ups], ran.m[ups]), (p, m), "{ups} steps up, {limit} steps");
-    }
-    // 0 again after 2,000 records, then up to 3.
-    let again = "flow,1,0,1,1\n1,read,1,1,2,3\n2,up,1,1\n3,count,1,1000,6,4\n4,zero,1,5\n5,up,1,7\n6,stop\n7,count,1,3,5,6\n";
-    let ran = on_one_tape(again, 1_000_000, &[1; 2000], 0);
-    assert_eq!((ran.end, ran.steps, ran.highest), (End::Stopped, 4009, 2000));
-    assert_eq!((ran.p, ran.m), (vec![2000, 0, 0, 0, 0, 0, 2], vec![1, 0, 1, 0, 0, 0, 1]));
-}
-
-/// Reports with counters, the configurations counted by hand, and again by trial of numbers.
-fn counters_reported() {
-    let report = |text: &str, configurations: usize, distances: &str| {
-        let flow = flow(text);
-        let report = format!("report,{},{configurations}\n{distances}", flow.instructions.len());
-        for cells in [configurations, 65_536, usize::MAX] {
-            assert_eq!(lines(text.as_bytes(), cells), report, "{text}");
-        }
-        assert_eq!(lines(text.as_bytes(), configurations - 1), "refused,9,0\n", "{text}");
-        let found = census(&flow, 65_536).expect("few configurations");
-        let reach = flow.instructions.iter().filter(|x| matches!(x, Instruction::Read { .. })).count() as i64 + 1;
-        assert_eq!(by_numbers(&flow, reach), Some(found), "{text}");
-    };
-    // 0 to c - 1, 1 to c, and c.
-    report(&rising(1), 3, "2,p,none\n2,m,1\n");
-    report(&rising(2), 5, "2,p,1\n2,m,2\n");
-    report(&rising(3), 7, "2,p,1\n2,m,3\n");
-    report(&rising(10), 21, "2,p,1\n2,m,10\n");
-    report(&rising(1000), 2001, "2,p,1\n2,m,1000\n");
-    // c = 0: all values are one.
-    report(&rising(0), 3, "2,p,none\n2,m,1\n");
-    report("flow,1,0,1,1\n1,up,1,2\n2,count,1,0,1,1\n", 2, "2,p,none\n2,m,1\n");
-    report("flow,1,0,1,1\n1,count,1,1,2,2\n2,stop\n", 2, "1,p,1\n1,m,none\n");
-    // A way without exits: 0 to 4 at each, and nothing else is reached.
-    report("flow,1,0,1,1\n1,up,1,1\n2,count,1,4,1,1\n", 5, "2,p,none\n2,m,none\n");
-    // Counters that are not used, or not compared: flow A with one and two, and with a step up before each read.
-    for z in [1, 2] {
-        let (_, distances) = REPORT_A.split_once('\n').expect("more than a line");
-        report(&FLOW_A.replacen("flow,1,0,1", &format!("flow,1,0,1,{z}"), 1), 19, distances);
-        let up = format!("flow,1,0,1,{z}\n1,up,{z},2\n2,read,1,1,3,4\n3,over,5,1,1,4\n4,stop\n");
-        report(&up, 21, "2,p,1\n2,m,1\n3,p,2\n3,m,2\n");
-    }
-    // 2ab + 3b + 1, and the outer loop is left after a + 1 exits b times.
-    report(&nested(2, 3), 22, "2,p,1\n2,m,2\n5,p,3\n5,m,9\n");
-    report(&nested(1, 4), 21, "2,p,none\n2,m,1\n5,p,2\n5,m,8\n");
-    report(&nested(40, 5), 416, "2,p,1\n2,m,40\n5,p,41\n5,m,205\n");
-    // At 1 the start, and 1, 2 and 3 with three patterns; at 2 four with three; 10 after the end; 7 and 3; 3.
-    report(RECORDS, 45, "1,p,1\n1,m,1\n3,p,2\n3,m,5\n5,p,none\n5,m,6\n");
-    // 4, 6, 6, 2, 4 after the end, 4 and 2.
-    report(RESET, 28, "1,p,1\n1,m,1\n3,p,2\n3,m,2\n6,p,3\n6,m,6\n");
-    // 16, 13 and 13; without the last line, which says that 0 to 5 are not one, 3, 3 and 3.
-    report(UNREACHED, 42, "2,p,1\n2,m,1\n4,p,none\n4,m,none\n");
-    report(&UNREACHED.replace("4,count,1,5,3,3\n", ""), 9, "2,p,1\n2,m,1\n");
-    // Both counters at once: 0 to 2 and 0 to 1, in step.
-    let both = "flow,1,0,1,2\n1,up,1,2\n2,up,2,3\n3,count,2,1,4,4\n4,count,1,2,1,5\n5,count,2,1,1,6\n6,stop\n";
-    report(both, 10, "3,p,none\n3,m,1\n4,p,2\n4,m,4\n5,p,none\n5,m,5\n");
-    // Two values of c: the lesser one is passed first, and the counter goes on.
-    let two = "flow,1,0,1,1\n1,up,1,2\n2,count,1,2,1,3\n3,count,1,4,1,4\n4,stop\n";
-    report(two, 12, "2,p,1\n2,m,2\n3,p,3\n3,m,7\n");
-}
-
-fn counters_sampled() {
-    let refuse = |number| Err(Refusal { number, place: 0 });
-    let records = flow(RECORDS);
-    let found = census(&records, 4096).expect("few configurations");
-    assert_eq!(wanted(&records, 3, false, Ok(&found), 5), Ok(Some(5)));
-    assert_eq!(wanted(&records, 3, false, Ok(&found), 4), refuse(10));
-    assert_eq!(wanted(&records, 5, true, Ok(&found), 0), Ok(None));
-    assert_eq!(wanted(&records, 2, true, Ok(&found), 9), refuse(11), "`up` has no two exits");
-    for row in [[0, 0, 0, 9, 9], [5, -5, 5, 9, 9]] {
-        assert!(faults(&records, 3, false, 5, &row, &[3]).is_empty());
-        let ran = up_to(&records, 3, false, 5, &row[..3], &[3]).expect("the exit is taken");
-        assert_eq!((ran.steps, ran.p[0], ran.m[2]), (8, 3, 1));
-    }
-    // One record less, one more, and one that the c of `count` would allow if it were a constant.
-    for (row, length) in [([0, 0, 0, 0, 0], 2), ([0, 0, 0, 0, 0], 4), ([0, 0, 6, 0, 0], 3)] {
-        assert_eq!(faults(&records, 3, false, 5, &row, &[length]).len(), 1, "{row:?}, {length}");
-    }
-    for c in [2, 3, 10, 1000] {
-        let rising = flow(&rising(c));
-        let row = vec![0; c as usize];
-        assert!(faults(&rising, 2, false, c as u32, &row, &[0]).is_empty());
-        assert_eq!(faults(&rising, 2, false, c as u32 - 1, &row, &[0]).len(), 1);
-        assert_eq!(up_to(&rising, 2, false, c as u32, &[], &[0]).map(|ran| ran.steps), Some(2 * c));
-        assert_eq!(wanted(&rising, 2, false, census(&rising, 65_536).as_ref().map_err(|why| *why), c as usize - 1), refuse(10));
-    }
-}
-
-/// Bounds with counters, counted by hand.
-fn counters_bounded() {
-    for (text, answer) in [
-        (rising(0), Some(3 * 2 * 3)),
-        (rising(1), Some(3 * 2 * 3 * 2)),
-        (rising(1000), Some(3 * 2 * 3 * 1001)),
-        (nested(2, 3), Some(6 * 2 * 3 * 3 * 4)),
-        (nested(0, 1000), Some(6 * 2 * 3 * 1001)),
-        (nested(1000, 1000), None),
-        (nested(41, 42), Some(65_016)),
-        (nested(42, 42), None),
-        (RECORDS.to_string(), Some(5 * 2 * 3 * 4)),
-        (RESET.to_string(), Some(7 * 2 * 3 * 3)),
-        (UNREACHED.to_string(), Some(4 * 2 * 3 * 6)),
-        (FLOW_A.replacen("flow,1,0,1", "flow,1,0,1,2", 1), Some(48)),
-        // 65,536 by the counters, and past it by one c.
-        ("flow,1,0,1,2\n1,count,1,127,1,1\n2,count,2,31,1,2\n3,under,1,1,3,3\n4,nop,1\n".to_string(), None),
-        ("flow,1,0,1,2\n1,count,1,127,1,1\n2,count,2,15,1,2\n3,under,1,1,3,3\n4,nop,1\n".to_string(), Some(65_536)),
-        ("flow,1,0,1,2\n1,count,1,128,1,1\n2,count,2,15,1,2\n3,under,1,1,3,3\n4,nop,1\n".to_string(), None),
-        ("flow,1,0,1,1\n1,count,1,1000,1,1\n2,set,8,1,1\n".to_string(), Some(2 * 2 * 11 * 1001)),
-        ("flow,1,0,1,1\n1,count,1,1000,1,1\n2,set,14,1,1\n".to_string(), None),
-    ] {
-        let flow = flow(&text);
-        assert_eq!(bound(&flow), answer, "{text}");
-        assert_eq!(line(text.as_bytes()), answer.map_or("bound,over\n".to_string(), |bound| format!("bound,{bound}\n")), "{text}");
-    }
-    let most = (1..=64).fold("flow,3,0,4,2\n".to_string(), |text, i| match i {
-        1 | 2 => text + &format!("{i},count,{i},1000,1,1\n"),
-        _ => text + &format!("{i},set,{},1,1\n", if i > 32 { 9999 } else { -9999 }),
-    });
-    assert_eq!(exact(&flow(&most)), 81_936_390_145_024_088_576 * 1_002_001, "past 80 bits");
-    assert_eq!(line(most.as_bytes()), "bound,over\n");
-    assert_eq!(lines(rising(1).as_bytes(), 36), lines(rising(1).as_bytes(), 3), "as many cells as the bound says");
 }
 
 /// Asserts the pieces, and some that the words of documents 01 and 02 settle directly.
@@ -916,9 +626,4 @@ pub fn check() {
     bounds();
     samples();
     of_empty();
-    counters_read();
-    counters_run();
-    counters_reported();
-    counters_sampled();
-    counters_bounded();
 }

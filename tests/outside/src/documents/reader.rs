@@ -1,6 +1,5 @@
 //! Reading a flow text: document 01, "The flow text", and the rows 1 to 8 of "Where a request is turned back", as document 02 (T-02, T-08,
-//! T-09, T-10) changes them: 13, 14 and 15 stand where 4 stood, 2 is gone, as no bytes are a legal text, constants run from -9999 to 9999, and
-//! there may be counters.
+//! T-09) changes them: 13, 14 and 15 stand where 4 stood, 2 is gone, as no bytes are a legal text, and constants run from -9999 to 9999.
 
 use super::flow::{Flow, Instruction, Refusal};
 
@@ -8,10 +7,8 @@ const BYTES: usize = 4096;
 const TAPES: i64 = 3;
 const OUTPUTS: i64 = 3;
 const VARIABLES: i64 = 4;
-const COUNTERS: i64 = 2;
 const INSTRUCTIONS: usize = 64;
 const CONSTANT: i64 = 9999;
-const COUNT: i64 = 1000;
 
 /// A number of more digits than any range holds is kept at this value, which lies outside every range.
 const LARGE: i64 = 1_000_000;
@@ -23,9 +20,6 @@ enum Kind {
     Variable,
     Output,
     Constant,
-    Counter,
-    /// The c of `count`, which may have no minus.
-    Count,
     Target,
 }
 
@@ -42,9 +36,6 @@ fn kinds(word: &[u8]) -> Option<&'static [Kind]> {
         b"under" => &[Variable, Constant, Target, Target],
         b"nop" => &[Target],
         b"stop" => &[],
-        b"zero" => &[Counter, Target],
-        b"up" => &[Counter, Target],
-        b"count" => &[Counter, Count, Target, Target],
         _ => return None,
     })
 }
@@ -63,28 +54,15 @@ fn constant(field: &[u8]) -> Option<i64> {
     }
 }
 
-/// Line 1, `flow,T,O,V` or `flow,T,O,V,Z`: refusal 13 before 14, 14 before 15, and 15 before 5. Without Z there are no counters; a Z of 0
-/// is refused.
+/// Line 1, `flow,T,O,V`: refusal 13 before 14, 14 before 15, and 15 before 5.
 fn first_line(fields: &[&[u8]]) -> Result<Flow, u32> {
     let [b"flow", rest @ ..] = fields else { return Err(13) };
-    let (t, o, v, z) = match rest {
-        [t, o, v] => (t, o, v, None),
-        [t, o, v, z] => (t, o, v, Some(z)),
-        _ => return Err(14),
-    };
+    let [t, o, v] = rest else { return Err(14) };
     let (Some(t), Some(o), Some(v)) = (natural(t), natural(o), natural(v)) else { return Err(15) };
-    let z = match z {
-        Some(z) => Some(natural(z).ok_or(15u32)?),
-        None => None,
-    };
     if !(1..=TAPES).contains(&t) || !(0..=OUTPUTS).contains(&o) || !(1..=VARIABLES).contains(&v) {
         return Err(5);
     }
-    if z.is_some_and(|z| !(1..=COUNTERS).contains(&z)) {
-        return Err(5);
-    }
-    let counters = z.unwrap_or(0) as usize;
-    Ok(Flow { tapes: t as usize, outputs: o as usize, variables: v as usize, counters, instructions: Vec::new() })
+    Ok(Flow { tapes: t as usize, outputs: o as usize, variables: v as usize, instructions: Vec::new() })
 }
 
 /// The line of the instruction whose turn is `turn`: refusal 13 before 14, 14 before 15, 15 before 6, and 6 before 5.
@@ -107,8 +85,6 @@ fn instruction_line(fields: &[&[u8]], turn: usize, flow: &Flow) -> Result<Instru
         Kind::Variable => (1..=flow.variables as i64).contains(&value),
         Kind::Output => (1..=flow.outputs as i64).contains(&value),
         Kind::Constant => (-CONSTANT..=CONSTANT).contains(&value),
-        Kind::Counter => (1..=flow.counters as i64).contains(&value),
-        Kind::Count => (0..=COUNT).contains(&value),
         Kind::Target => true,
     };
     if !kinds.iter().zip(&values).all(inside) {
@@ -129,16 +105,13 @@ fn instruction(word: &[u8], values: &[i64]) -> Instruction {
         b"over" => Instruction::Over { c: values[0], v: at(1), p: at(2), m: at(3) },
         b"under" => Instruction::Under { v: at(0), c: values[1], p: at(2), m: at(3) },
         b"nop" => Instruction::Nop { n: at(0) },
-        b"zero" => Instruction::Zero { z: at(0), n: at(1) },
-        b"up" => Instruction::Up { z: at(0), n: at(1) },
-        b"count" => Instruction::Count { z: at(0), c: values[1] as u64, p: at(2), m: at(3) },
         _ => Instruction::Stop,
     }
 }
 
 /// The flow that no bytes at all mean: document 02 (T-08).
 fn of_no_bytes() -> Flow {
-    Flow { tapes: 1, outputs: 0, variables: 1, counters: 0, instructions: vec![Instruction::Stop] }
+    Flow { tapes: 1, outputs: 0, variables: 1, instructions: vec![Instruction::Stop] }
 }
 
 /// The flow of a legal text, or the refusal that the table of documents 01 and 02 gives it, from the whole text down to "after all lines".

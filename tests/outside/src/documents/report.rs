@@ -1,5 +1,4 @@
-//! What the program `report` prints: document 01, "The report", and document 02: no bytes (T-08), and the exits of `count`, which are listed
-//! like the others (T-10).
+//! What the program `report` prints: document 01, "The report", and for no bytes document 02 (T-08).
 
 use super::flow::Refusal;
 use super::reader::read;

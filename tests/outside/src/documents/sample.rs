@@ -20,8 +20,7 @@ pub fn wanted(flow: &Flow, instruction: u64, exit_p: bool, census: Result<&Censu
 }
 
 /// The run of tapes up to and with the first taking of an exit, if it takes it within `d` exits or soon after. From one exit to the next a
-/// run that goes on to it comes by each instruction once at most, so as many steps as there are instructions are enough for each exit. An
-/// `up` or a `zero` between them does not change where it goes on.
+/// run that goes on to it comes by each instruction once at most, so as many steps as there are instructions are enough for each exit.
 pub fn up_to(flow: &Flow, instruction: u64, exit_p: bool, d: u32, records: &[i32], lengths: &[usize]) -> Option<Ran> {
     let index = instruction as usize - 1;
     let after = |limit: u64| run(flow, limit, records, lengths, usize::MAX).ok();
@@ -42,8 +41,7 @@ pub fn up_to(flow: &Flow, instruction: u64, exit_p: bool, d: u32, records: &[i32
 }
 
 /// What tapes handed out in a row as a sample of distance `d` break of what documents 01 and 02 say of one; empty if nothing. Lengths
-/// past the T-th are borne if they are 0. That no tapes take the exit earlier than `d` is for the search to say. The c of a `count` does not
-/// widen the range of a record.
+/// past the T-th are borne if they are 0. That no tapes take the exit earlier than `d` is for the search to say.
 pub fn faults(flow: &Flow, instruction: u64, exit_p: bool, d: u32, row: &[i32], lengths: &[u64]) -> Vec<String> {
     if !flow.has_exits(instruction) {
         return vec![format!("instruction {instruction} has no two exits")];

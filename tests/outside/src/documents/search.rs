@@ -1,5 +1,5 @@
 //! The search for all reachable configurations: document 01, "Distances and configurations". A distance is a number of exits taken (document
-//! 02, T-04). A configuration has the values of the counters too (document 02, T-10).
+//! 02, T-04).
 
 use super::flow::{Flow, Instruction, Refusal};
 use std::cmp::{Ordering, Reverse};
@@ -82,54 +82,35 @@ type Pattern = [i32; 4];
 const RANKS: i32 = 4;
 const BITS: u32 = 15;
 
-/// A configuration but for its pattern: the instruction, the tapes ended, and the counters. A counter that has its largest c or more is held
-/// at its largest c; counters past Z stay 0.
-#[derive(Clone, Copy)]
-struct Place {
-    at: usize,
-    ended: u8,
-    counters: [u64; 2],
-}
-
-/// The bits of one counter: a largest c is at most 1000.
-const COUNTER_BITS: u32 = 10;
-
 struct Search {
     low: i32,
     high: i32,
-    largest: [u64; 2],
     room: usize,
     /// Each configuration arrived at, with the least length of a way to it so far, and the same to be gone on from, the least first.
     found: Numbers,
     due: BinaryHeap<Reverse<(u32, u128)>>,
-    /// Where reads have led already: target, variable, tapes ended, counters and the pattern of the other variables.
+    /// Where reads have led already: target, variable, tapes ended and the pattern of the other variables.
     fans: Words,
 }
 
 impl Search {
-    fn pack(&self, place: Place, pattern: Pattern) -> u128 {
-        let first = (place.at as u128) << 3 | u128::from(place.ended);
-        let first = place.counters.iter().fold(first, |word, &x| word << COUNTER_BITS | u128::from(x));
+    fn pack(&self, at: usize, ended: u8, pattern: Pattern) -> u128 {
+        let first = (at as u128) << 3 | u128::from(ended);
         pattern.iter().fold(first, |word, &x| word << BITS | (x - self.low + RANKS) as u128)
     }
 
-    fn unpack(&self, mut word: u128) -> (Place, Pattern) {
+    fn unpack(&self, mut word: u128) -> (usize, u8, Pattern) {
         let mut pattern = [0; 4];
         for x in pattern.iter_mut().rev() {
             *x = (word & ((1 << BITS) - 1)) as i32 + self.low - RANKS;
             word >>= BITS;
         }
-        let mut counters = [0; 2];
-        for x in counters.iter_mut().rev() {
-            *x = word as u64 & ((1 << COUNTER_BITS) - 1);
-            word >>= COUNTER_BITS;
-        }
-        (Place { at: (word >> 3) as usize, ended: (word & 7) as u8, counters }, pattern)
+        ((word >> 3) as usize, (word & 7) as u8, pattern)
     }
 
     /// Arrival at a configuration by a way of this length. Refusal 9 if it is new and no cell is left for it.
-    fn arrive(&mut self, length: u32, place: Place, pattern: Pattern) -> Result<(), Refusal> {
-        let word = self.pack(place, pattern);
+    fn arrive(&mut self, length: u32, at: usize, ended: u8, pattern: Pattern) -> Result<(), Refusal> {
+        let word = self.pack(at, ended, pattern);
         let least = self.found.get(&word).copied();
         if least.is_none() && self.found.len() == self.room {
             return Err(Refusal { number: 9, place: 0 });
@@ -161,8 +142,8 @@ impl Search {
     /// All configurations to which the read of a record to `v` may lead, `others` being the pattern without `v`. Records may be
     /// of any size, so the values held outside C1 to C2 can lie as far apart as a later record needs: besides every whole number
     /// from C1 to C2 the record may share any rank held, or take a new rank before, between or beyond those held.
-    fn fan(&mut self, length: u32, place: Place, others: Pattern, v: usize) -> Result<(), Refusal> {
-        let key = self.pack(place, others) | (v as u128) << 120;
+    fn fan(&mut self, length: u32, at: usize, ended: u8, others: Pattern, v: usize) -> Result<(), Refusal> {
+        let key = self.pack(at, ended, others) | (v as u128) << 120;
         if !self.fans.insert(key) {
             return Ok(());
         }
@@ -171,17 +152,17 @@ impl Search {
         for record in least..=greatest {
             let mut pattern = others;
             pattern[v - 1] = record;
-            self.arrive(length, place, pattern)?;
+            self.arrive(length, at, ended, pattern)?;
         }
         for record in high + 1..=greatest + 1 {
             let mut pattern = others.map(|x| if x >= record { x + 1 } else { x });
             pattern[v - 1] = record;
-            self.arrive(length, place, pattern)?;
+            self.arrive(length, at, ended, pattern)?;
         }
         for record in least - 1..low {
             let mut pattern = others.map(|x| if x <= record { x - 1 } else { x });
             pattern[v - 1] = record;
-            self.arrive(length, place, pattern)?;
+            self.arrive(length, at, ended, pattern)?;
         }
         Ok(())
     }
@@ -190,50 +171,38 @@ impl Search {
     /// depends on the configuration alone; where a read of a record leads does not depend on the value that its variable had, so what
     /// comes first, by the shortest way, counts.
     fn step(&mut self, flow: &Flow, word: u128, (exit, plain): (u32, u32), census: &mut Census) -> Result<(), Refusal> {
-        let (place, pattern) = self.unpack(word);
-        let to = |at: usize| Place { at, ..place };
-        let mut compare = |holds: bool, p: usize, m: usize| to(census.take(place.at, (p, m), holds, exit));
-        match flow.instructions[place.at - 1] {
+        let (at, ended, pattern) = self.unpack(word);
+        let mut compare = |holds: bool, p: usize, m: usize| census.take(at, (p, m), holds, exit);
+        match flow.instructions[at - 1] {
             Instruction::Read { tape, v, p, m } => {
                 let bit = 1 << (tape - 1);
-                if place.ended & bit == 0 {
+                if ended & bit == 0 {
                     let target = compare(true, p, m);
-                    self.fan(exit, target, self.without(pattern, v), v)?;
+                    self.fan(exit, target, ended, self.without(pattern, v), v)?;
                 }
                 let target = compare(false, p, m);
-                self.arrive(exit, Place { ended: place.ended | bit, ..target }, pattern)
+                self.arrive(exit, target, ended | bit, pattern)
             }
-            Instruction::Put { n, .. } | Instruction::Nop { n } => self.arrive(plain, to(n), pattern),
-            Instruction::Copy { u, v, n } if u == v => self.arrive(plain, to(n), pattern),
+            Instruction::Put { n, .. } | Instruction::Nop { n } => self.arrive(plain, n, ended, pattern),
+            Instruction::Copy { u, v, n } if u == v => self.arrive(plain, n, ended, pattern),
             Instruction::Copy { u, v, n } => {
                 let mut after = self.without(pattern, v);
                 after[v - 1] = after[u - 1];
-                self.arrive(plain, to(n), after)
+                self.arrive(plain, n, ended, after)
             }
             Instruction::Set { c, v, n } => {
                 let mut after = self.without(pattern, v);
                 after[v - 1] = c as i32;
-                self.arrive(plain, to(n), after)
+                self.arrive(plain, n, ended, after)
             }
             Instruction::Less { u, v, p, m } => {
                 let target = compare(pattern[u - 1] < pattern[v - 1], p, m);
                 census.pairs.extend((u != v).then(|| pair(pattern[u - 1], pattern[v - 1], self.low, self.high)));
-                self.arrive(exit, target, pattern)
+                self.arrive(exit, target, ended, pattern)
             }
-            Instruction::Over { c, v, p, m } => self.arrive(exit, compare((c as i32) < pattern[v - 1], p, m), pattern),
-            Instruction::Under { v, c, p, m } => self.arrive(exit, compare(pattern[v - 1] < c as i32, p, m), pattern),
+            Instruction::Over { c, v, p, m } => self.arrive(exit, compare((c as i32) < pattern[v - 1], p, m), ended, pattern),
+            Instruction::Under { v, c, p, m } => self.arrive(exit, compare(pattern[v - 1] < c as i32, p, m), ended, pattern),
             Instruction::Stop => Ok(()),
-            Instruction::Zero { z, n } => {
-                let mut after = to(n);
-                after.counters[z - 1] = 0;
-                self.arrive(plain, after, pattern)
-            }
-            Instruction::Up { z, n } => {
-                let mut after = to(n);
-                after.counters[z - 1] = self.largest[z - 1].min(after.counters[z - 1] + 1);
-                self.arrive(plain, after, pattern)
-            }
-            Instruction::Count { z, c, p, m } => self.arrive(exit, compare(place.counters[z - 1] < c, p, m), pattern),
         }
     }
 }
@@ -243,11 +212,9 @@ impl Search {
 fn searched(flow: &Flow, cells: usize, plain: u32) -> Result<Census, Refusal> {
     let (low, high) = flow.bounds();
     let (found, due, fans) = (Numbers::default(), BinaryHeap::new(), Words::default());
-    let mut largest = [0; 2];
-    largest[..flow.counters].copy_from_slice(&flow.largest());
-    let mut search = Search { low: low as i32, high: high as i32, largest, room: cells.min(CELLS), found, due, fans };
+    let mut search = Search { low: low as i32, high: high as i32, room: cells.min(CELLS), found, due, fans };
     let mut census = Census::new(flow);
-    search.arrive(0, Place { at: 1, ended: 0, counters: [0; 2] }, [0; 4])?;
+    search.arrive(0, 1, 0, [0; 4])?;
     while let Some(Reverse((length, word))) = search.due.pop() {
         // Or a shorter way was found, and it was gone on from.
         if search.found[&word] == length {
@@ -285,49 +252,28 @@ pub fn pattern_of(values: &[i64], low: i64, high: i64) -> Vec<(i8, i64)> {
     values.iter().map(place).collect()
 }
 
-/// A state of the second search: an instruction, the tapes ended, the numbers held and the counters.
-type State = (usize, u8, Vec<i64>, Vec<u64>);
-
-/// The second search gives up if it meets more states than these. Only with counters there can be so many.
-const STATES: usize = 60_000;
-
 /// A second search, for small flows, that knows no patterns: its states are an instruction, the tapes ended and actual numbers,
-/// and every read tries every whole number from C1 - reach to C2 + reach. The counters are actual numbers too, without limit. The states
-/// are gone through by levels: all that are arrived at with so many exits and not with fewer. The configurations are counted at the end.
-///
-/// Where counters rise for ever there is always a next state. So the levels end when for some time, longer than a counter takes to its
-/// largest c, none has had a new configuration; and a way without exits ends when it has gone around so often that nothing new can come.
-/// None if there are too many states.
-pub fn by_numbers(flow: &Flow, reach: i64) -> Option<Census> {
+/// and every read tries every whole number from C1 - reach to C2 + reach. The states are gone through by levels: all that are arrived
+/// at with so many exits and not with fewer. The configurations are counted at the end.
+pub fn by_numbers(flow: &Flow, reach: i64) -> Census {
+    type State = (usize, u8, Vec<i64>);
     let (low, high) = flow.bounds();
-    let largest = flow.largest();
     let trials = low - reach..=high + reach;
-    let width = (high - low + 2 * reach + 1) as u128;
-    let word = |(at, ended, held, counters): &State| {
-        let first = held.iter().fold((at * 8 + *ended as usize) as u128, |i, &x| i * width + (x - low + reach) as u128);
-        counters.iter().fold(first, |i, &x| i << 20 | u128::from(x))
-    };
-    let most = largest.iter().fold(0, |most, &c| most.max(c));
-    let quiet = if flow.counters == 0 { u32::MAX } else { most as u32 + 3 };
-    let around = flow.instructions.len() as u64 * (most + 16);
-    let mut seen = Words::default();
+    let width = (high - low + 2 * reach + 1) as usize;
+    let place = |(at, ended, held): &State| held.iter().fold(at * 8 + *ended as usize, |i, &x| i * width + (x - low + reach) as usize);
+    let mut seen = vec![false; (flow.instructions.len() + 1) * 8 * width.pow(flow.variables as u32)];
     let mut census = Census::new(flow);
     let mut configurations = HashSet::new();
-    let mut level: Vec<(u64, State)> = vec![(0, (1, 0, vec![0; flow.variables], vec![0; flow.counters]))];
+    let mut level: Vec<State> = vec![(1, 0, vec![0; flow.variables])];
     let mut exits = 0;
-    while !level.is_empty() && exits - census.depth <= quiet {
-        let mut following: Vec<(u64, State)> = Vec::new();
-        // The steps since the last exit, and the state.
-        while let Some((steps, state)) = level.pop() {
-            if steps > around || !seen.insert(word(&state)) {
+    while !level.is_empty() {
+        let mut following: Vec<State> = Vec::new();
+        while let Some(state) = level.pop() {
+            if std::mem::replace(&mut seen[place(&state)], true) {
                 continue;
             }
-            if flow.counters > 0 && seen.len() > STATES {
-                return None;
-            }
-            let (at, ended, held, counters) = state;
-            let counted: Vec<u64> = counters.iter().zip(&largest).map(|(&x, &c)| if x >= c { c } else { x }).collect();
-            if configurations.insert((at, ended, pattern_of(&held, low, high), counted)) {
+            let (at, ended, held) = state;
+            if configurations.insert((at, ended, pattern_of(&held, low, high))) {
                 census.depth = exits;
             }
             let with = |v: usize, x: i64| {
@@ -335,41 +281,32 @@ pub fn by_numbers(flow: &Flow, reach: i64) -> Option<Census> {
                 held[v - 1] = x;
                 held
             };
-            let counting = |z: usize, x: u64| {
-                let mut counters = counters.clone();
-                counters[z - 1] = x;
-                counters
-            };
             let mut take = |p, m, exit_p| census.take(at, (p, m), exit_p, exits + 1);
-            let plain = steps + 1;
             match flow.instructions[at - 1] {
                 Instruction::Read { tape, v, p, m } => {
                     if ended >> (tape - 1) & 1 == 0 {
                         take(p, m, true);
-                        let arrived = trials.clone().map(|record| (p, ended, with(v, record), counters.clone()));
-                        following.extend(arrived.filter(|state| !seen.contains(&word(state))).map(|state| (0, state)));
+                        let arrived = trials.clone().map(|record| (p, ended, with(v, record)));
+                        following.extend(arrived.filter(|state| !seen[place(state)]));
                     }
-                    following.push((0, (take(p, m, false), ended | 1 << (tape - 1), held, counters)));
+                    following.push((take(p, m, false), ended | 1 << (tape - 1), held));
                 }
-                Instruction::Put { n, .. } | Instruction::Nop { n } => level.push((plain, (n, ended, held, counters))),
-                Instruction::Copy { u, v, n } => level.push((plain, (n, ended, with(v, held[u - 1]), counters))),
-                Instruction::Set { c, v, n } => level.push((plain, (n, ended, with(v, c), counters))),
+                Instruction::Put { n, .. } | Instruction::Nop { n } => level.push((n, ended, held)),
+                Instruction::Copy { u, v, n } => level.push((n, ended, with(v, held[u - 1]))),
+                Instruction::Set { c, v, n } => level.push((n, ended, with(v, c))),
                 Instruction::Less { u, v, p, m } => {
                     let target = take(p, m, held[u - 1] < held[v - 1]);
                     census.pairs.extend((u != v).then(|| pair(held[u - 1], held[v - 1], low, high)));
-                    following.push((0, (target, ended, held, counters)));
+                    following.push((target, ended, held));
                 }
-                Instruction::Over { c, v, p, m } => following.push((0, (take(p, m, c < held[v - 1]), ended, held, counters))),
-                Instruction::Under { v, c, p, m } => following.push((0, (take(p, m, held[v - 1] < c), ended, held, counters))),
+                Instruction::Over { c, v, p, m } => following.push((take(p, m, c < held[v - 1]), ended, held)),
+                Instruction::Under { v, c, p, m } => following.push((take(p, m, held[v - 1] < c), ended, held)),
                 Instruction::Stop => {}
-                Instruction::Zero { z, n } => level.push((plain, (n, ended, held, counting(z, 0)))),
-                Instruction::Up { z, n } => level.push((plain, (n, ended, held, counting(z, counters[z - 1] + 1)))),
-                Instruction::Count { z, c, p, m } => following.push((0, (take(p, m, counters[z - 1] < c), ended, held, counters))),
             }
         }
         level = following;
         exits += 1;
     }
     census.configurations = configurations.len();
-    Some(census)
+    census
 }

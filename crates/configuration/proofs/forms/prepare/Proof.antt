@@ -2,8 +2,7 @@
 use mathlib.Core.Path.{◌≡◌, ap, ◌∙◌}
 use Prim.Native.Nat.{ℕ, min}
 use borrow.Author.Rules.{rules}
-use native.Mathlib.Omega.{arith}
-use lib.IntN.{ℤ, pos}
+use lib.IntN.{ℤ}
 use mir.Syntax.{w32}
 use mir.Val.{SFits, to_z, of_z}
 use mir.Facts.{to_z-of_z}
@@ -22,9 +21,7 @@ narrow s = (search rules, search rules, search rules, search rules)
 
 returns : tie.Need-returns
 returns c =
-    let k = c.before in
-    let l = k.before in
-    let v = l.before.before in
+    let v = c.before in
     let u = v.before.before in
     let d = u.before.before in
     let m = d.before.before in
@@ -32,23 +29,19 @@ returns c =
     let a = b.before.before in
     let s = a.before.before in
     let x = s.args.x in
-    prepared s.args.lo s.args.caps x s.requires
+    prepared s.args.lo x s.requires
     (in-byte x.first (narrow s).0 _ a.byte.ensures)
     (in-byte x.second (narrow s).1 _ b.byte2.ensures)
     (in-byte x.third (narrow s).2 _ m.byte3.ensures)
     (in-byte x.fourth (narrow s).3 _ d.byte4.ensures)
     (offset_bits x.first s.args.lo (narrow s).0 s.ranges.lo _ u.offset-of.ensures)
     (offset_bits x.second s.args.lo (narrow s).1 s.ranges.lo _ v.offset-of2.ensures)
-    (offset_bits x.second (pos 0) (narrow s).1 (record { sfits = omega arith }) _ l.offset-of3.ensures)
-    k.cap-of.ensures
     c.form.ensures
 
 pub prepare-spec : {M : Type 1} → statement M
 prepare-spec =
     tie.close
     (tie.spec
-    (λ c κs. search rules)
-    (λ c κs. search rules)
     (λ c κs. search rules)
     (λ c κs. search rules)
     (λ c κs. search rules)

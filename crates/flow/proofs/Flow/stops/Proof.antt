@@ -9,7 +9,7 @@ use Rattle.flow.proofs.Flow.stops.Tie as tie
 returns : tie.Need-returns
 returns c = let a = c.before.before.args in
     c.new.ensures
-    ∙ ap (λ (x : Instruction). record { tapes = a.tapes; outputs = 0; variables = a.variables; counters = 0; count = a.count; instructions = replicate 64 x }) c.before.stop.ensures
+    ∙ ap (λ (x : Instruction). record { tapes = a.tapes; outputs = 0; variables = a.variables; count = a.count; instructions = replicate 64 x }) c.before.stop.ensures
 
 pub stops-spec : {M : Type 1} → statement M
 stops-spec = tie.close (tie.spec (λ c κs. search rules) (λ c κs. search rules) returns)

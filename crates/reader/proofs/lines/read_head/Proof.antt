@@ -1,20 +1,16 @@
 -- `reader::lines::read_head` meets its contract: each way out is one of the definition's checks.
 use mathlib.Core.Path.{◌≡◌, sym, ap, ◌∙◌}
-use mathlib.Core.Bool.{true, ◌||◌}
+use mathlib.Core.Bool.{true}
 use mathlib.Core.List.{List, []}
 use mathlib.Core.Option.{some}
 use Prim.Native.Nat.{ℕ}
 use borrow.Author.Rules.{rules}
 use borrow.Author.Tests.{not-true, not-false}
-use lib.Dec.{eqb}
 use lib.ListN.{length, get_or}
 use Rattle.text.specs.Bytes.{bytes}
 use Rattle.text.specs.Split.{split, same_word}
-use Rattle.flow.specs.Read.{Checked, after, head_of, read_head}
-use Rattle.flow.specs.declared.Head.{Head}
 use Rattle.reader.specs.Inner.Line.{small_in, small_at}
-use Rattle.reader.specs.Inner.Lines.{counters_in}
-use Rattle.reader.proofs.HeadLaws.{head_unknown, head-count, head-tapes, head-outputs, head-variables, head-last}
+use Rattle.reader.proofs.HeadLaws.{head_unknown, head-count, head-tapes, head-outputs, head-variables, head-ranges}
 use Rattle.reader.proofs.lines.read_head.Statement.{statement}
 use Rattle.reader.proofs.lines.read_head.Tie as tie
 
@@ -30,23 +26,19 @@ module _ (c : tie.After-same-word) where
   word : c.same_word.result ≡ same_word (get_or fs 0 []) (bytes "flow")
   word = c.same_word.ensures ∙ ap (λ (w : List ℕ). same_word w (bytes "flow")) c.before.before.field.ensures
 
-  -- how many they are, by the code's count
-  four_or_five : let n = length fs in let m = divided.divide.result.count in (eqb n 4 || eqb n 5) ≡ (eqb m 4 || eqb m 5)
-  four_or_five = ap (λ (n : ℕ). eqb n 4 || eqb n 5) (sym divided.divide.ensures.counted)
-
 worded : (c : tie.Else1) → same_word (get_or (fs c.before) 0 []) (bytes "flow") ≡ true
 worded c = sym (word c.before) ∙ not-false _ c.if1.false
 
 -- ---- its fields are counted
 module _ (c : tie.Else2) where
   abbrev fields_at : tie.After-same-word
-  fields_at = c.before.before.before.before
+  fields_at = c.before.before.before
 
   its-word : same_word (get_or (fs fields_at) 0 []) (bytes "flow") ≡ true
-  its-word = worded c.before.before.before
+  its-word = worded c.before.before
 
-  counted : (eqb (length (fs fields_at)) 4 || eqb (length (fs fields_at)) 5) ≡ true
-  counted = four_or_five fields_at ∙ not-false _ c.if2.false
+  counted : length (fs fields_at) ≡ 4
+  counted = sym (divided fields_at).divide.ensures.counted ∙ c.if2.false
 
 -- ---- its numbers are read
 module _ (c : tie.After-known-told) where
@@ -75,8 +67,8 @@ returns c = head_unknown (fs c.before) (sym (word c.before) ∙ not-true _ c.if1
 
 returns-2 : tie.Need-returns-2
 returns-2 c =
-    let w = c.before.before.before in
-    head-count (fs w.before) (worded w) (four_or_five w.before ∙ not-true _ c.if2.true)
+    let w = c.before.before in
+    head-count (fs w.before) (worded w) (λ e. c.if2.true ((divided w.before).divide.ensures.counted ∙ e))
 
 returns-3 : tie.Need-returns-3
 returns-3 c =
@@ -99,30 +91,13 @@ returns-5 c =
     head-variables (fs (fields_at n)) (its-word n) (counted n) (tapes t) (outputs o)
     (ap small_in (sym c.enum-told3.given.1) ∙ c.before.before.small-at3.ensures)
 
--- ---- the field of the counters is read: what is found there settles the line
-module _ (c : tie.After-read-counters) where
-  abbrev variables-at : tie.After-known-told3
-  variables-at = c.before
-
-  abbrev by-counts : ℕ → Checked Head
-  by-counts =
-      let v = variables-at in
-      let o = outputs-at v in
-      head_of (tapes-at o).before.tapes.given.0.0 o.before.outputs.given.0.0 v.before.variables.given.0.0
-
-  settled : (found : Checked ℕ) → found ≡ counters_in c.read-counters.result
-      → after found by-counts ≡ read_head (fs (fields_at (count_at (tapes-at (outputs-at variables-at)))))
-  settled found e =
-      let o = outputs-at variables-at in
-      let t = tapes-at o in
-      let n = count_at t in
-      head-last (fs (fields_at n)) (its-word n) (counted n) (tapes t) (outputs o) (variables variables-at) found (e ∙ c.read-counters.ensures)
-
 returns-6 : tie.Need-returns-6
-returns-6 c = let k = c.before in c.head.ensures ∙ settled k.before.before.before _ (ap counters_in (sym k.before.counters.given.1))
-
-returns-7 : tie.Need-returns-7
-returns-7 c = settled c.before.before.before _ (ap counters_in (sym c.before.r.given.1))
+returns-6 c =
+    let v = c.before in
+    let o = outputs-at v in
+    let t = tapes-at o in
+    let n = count_at t in
+    c.head.ensures ∙ head-ranges (fs (fields_at n)) (its-word n) (counted n) (tapes t) (outputs o) (variables v)
 
 pub read-head-spec : {M : Type 1} → statement M
 read-head-spec =
@@ -147,8 +122,4 @@ read-head-spec =
     (λ c. search rules)
     returns-5
     (λ c κs. search rules)
-    (λ c. search rules)
-    (λ c κs. search rules)
-    (λ c. search rules)
-    returns-6
-    returns-7)
+    returns-6)

@@ -1,7 +1,6 @@
 -- `tape_maker::planning::plan_of` meets its contract: what the flow is searched by is prepared from it.
-use mathlib.Core.Path.{◌≡◌, ap, ap₂, ◌∙◌, subst₂, subst⁻¹}
-use mathlib.Core.List.{List}
-use Prim.Native.Nat.{ℕ, ◌<◌}
+use mathlib.Core.Path.{◌≡◌, ap, ap₂, ◌∙◌, subst, subst⁻¹}
+use Prim.Native.Nat.{◌<◌}
 use borrow.Author.Rules.{rules}
 use mir.Syntax.{w32}
 use mir.Val.{SFits, to_z, of_z}
@@ -24,7 +23,7 @@ use Rattle.flow.specs.Inner.Rows.{flow_of}
 
 -- the way: the range of the constants
 abbrev ranged : tie.After-width → tie.After-range-of
-ranged c = c.before.before.before.before.before.before
+ranged c = c.before.before.before.before.before
 
 -- the least and the greatest constant, as they are passed on
 lo-is : (c : tie.After-width) → to_z w32 (of_z w32 (ranged c).range-of.result.lo) ≡ C1 (flow_of (ranged c).before.args.flow)
@@ -34,7 +33,7 @@ hi-is : (c : tie.After-width) → to_z w32 (of_z w32 (ranged c).range-of.result.
 hi-is c = let f : SFits w32 (ranged c).range-of.result.hi = search rules in to_z-of_z f ∙ (ranged c).range-of.ensures.1
 
 prepare-requires : tie.Need-prepare-requires
-prepare-requires c κs = let a = c.before.before.before.before.before in (a.requires.1, rows-bytes a.args.flow a.requires.0)
+prepare-requires c κs = let a = c.before.before.before.before in (a.requires.1, rows-bytes a.args.flow a.requires.0)
 
 start-requires : tie.Need-start-requires
 start-requires c κs =
@@ -48,11 +47,10 @@ returns c =
     let flow = a.args.flow in
     let range = (ranged width).range-of.ensures in
     let ops = width.before.prepare in
-    let caps = width.before.before.before.caps-of in
     record {
       legal = a.pre.0;
       prepared = rows-prepared flow
-          (subst₂ (λ (z : ℤ) (k : List ℕ). Each (op_of z k) blank flow.instructions flow.count ops.result) (lo-is width) caps.ensures ops.ensures);
+          (subst (λ (z : ℤ). Each (op_of z) blank flow.instructions flow.count ops.result) (lo-is width) ops.ensures);
       width = width.width.ensures ∙ ap₂ width_of range.0 range.1;
       begins = c.start.ensures ∙ ap start_of (lo-is width);
       low = lo-is width;
@@ -63,7 +61,6 @@ pub plan-of-spec : {M : Type 1} → statement M
 plan-of-spec =
     tie.close
     (tie.spec
-    (λ c κs. search rules)
     (λ c κs. search rules)
     prepare-requires
     (λ c κs. search rules)
