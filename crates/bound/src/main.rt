@@ -1,5 +1,7 @@
 // Prints how many cells the flow on standard input takes at most (document 02, T-01): the row of `render::bound_of`. What cannot be read has no
 // bound: then one line says so on standard error, and standard output is empty.
+#![tactic(auto)]
+
 use flow::Flow;
 use input::Input;
 use libc::{STDERR_FILENO, STDIN_FILENO, STDOUT_FILENO};

@@ -1,5 +1,7 @@
 // The lent work cells of a search over nodes of two words. A node is found by a hash index with chains, stored and marked; cells are counted
 // and zeroed; the way of parents to an entry is written out. What the nodes mean, and which leads to which, is not known here.
+#![tactic(auto)]
+
 ghost use Rattle.std.specs.Prelude.{◌≡◌, ◌+◌, ◌*◌, ◌/◌, ◌%◌, ◌<◌, ◌≤◌, min, length, get_or, set};
 ghost use Rattle.cells.specs.Cells.{cell_words, most_cells, cells_of, zeroed};
 ghost use Rattle.cells.specs.Inner.Columns.{half, place_field, pattern_field, distance_field, parent_field, marks_field, way_field, column, word_column, columns_of, Only, Stored, Entered};
@@ -11,7 +13,7 @@ ghost use Rattle.cells.specs.Inner.Way.{Parents, Depth, Traced};
 // How many numbers half a word holds.
 const HALF: u64 = 4294967296;
 
-#[derive(Drop)]
+#[derive(Clone, Copy)]
 pub enum Found {
     At(usize),
     Nothing,
@@ -19,7 +21,7 @@ pub enum Found {
 
 // A cell: its words, and which field is where. A place and a pattern take two words each, the lower half first. The way of a sample takes the
 // place of the marks, which only a search needs.
-#[derive(Drop)]
+#[derive(Clone, Copy)]
 pub struct Cell;
 
 impl Cell {

@@ -1,4 +1,5 @@
 // The constants of a flow: C1 and C2, how many whole numbers there are from C1 to C2, and how far a constant lies above C1.
+#![tactic(auto)]
 
 ghost use Rattle.std.specs.Prelude.{◌≡◌, cond, ◌≤◌};
 ghost use Rattle.model.specs.Language.{C1, C2};
@@ -10,7 +11,7 @@ ghost use Rattle.constants.specs.Inner.Constants.{offset, constant_in};
 use flow::{Flow, Instruction, words};
 
 // The least and the greatest basic constant.
-#[derive(Drop)]
+#[derive(Clone, Copy)]
 pub struct Range {
     pub lo: i32,
     pub hi: i32,

@@ -1,6 +1,8 @@
 // A flow: its instructions and its limits, and the words and rows of its lines. The crate `reader` reads its text.
 //
 // The limits stand in `Flow`, and nowhere else in the code.
+#![tactic(auto)]
+
 pub mod words; // words.rt: the word of a line, and the fields that it asks for
 pub mod rows; // rows.rt: an instruction as a row, its numbers, and their ranges
 pub mod lent; // lent.rt: an instruction fetched from a lent slice, and stored there
@@ -14,7 +16,7 @@ ghost use Rattle.flow.specs.Code.{row_of, rows_of, no_flow};
 ghost use Rattle.flow.specs.Inner.Reader.{head_in};
 
 // The kinds of instruction, by their words.
-#[derive(Drop)]
+#[derive(Clone, Copy)]
 pub enum Kind {
     Read,
     Put,
@@ -28,7 +30,7 @@ pub enum Kind {
 }
 
 // What a field after the word names. `Target`, the first case, also stands past the last field.
-#[derive(Drop)]
+#[derive(Clone, Copy)]
 pub enum Sort {
     Target,
     Tape,
@@ -38,7 +40,7 @@ pub enum Sort {
 }
 
 // An instruction, kept whole: the kind of its line, and the numbers after the word in their order; 0 past the last.
-#[derive(Drop)]
+#[derive(Clone, Copy)]
 pub struct Instruction {
     pub kind: Kind,
     pub first: i32,
@@ -48,7 +50,7 @@ pub struct Instruction {
 }
 
 // The counts of line 1: input tapes, output tapes, inner variables.
-#[derive(Drop)]
+#[derive(Clone, Copy)]
 pub struct Head {
     pub tapes: u8,
     pub outputs: u8,
@@ -56,14 +58,14 @@ pub struct Head {
 }
 
 // What line 1 is read as.
-#[derive(Drop)]
+#[derive(Clone, Copy)]
 pub enum Headed {
     Heads(Head),
     Fault(Refusal),
 }
 
 // A flow: the counts of line 1, and the instructions in the order of their lines; rows past the count hold `stop`.
-#[derive(Drop)]
+#[derive(Clone, Copy)]
 pub struct Flow {
     pub tapes: u8,
     pub outputs: u8,
@@ -73,7 +75,7 @@ pub struct Flow {
 }
 
 // Why a request is turned back; the number in a case is that of the line. The first ten cases concern the text of a flow.
-#[derive(Drop)]
+#[derive(Clone, Copy)]
 pub enum Refusal {
     TooLong,
     NoLastEnd,
@@ -92,14 +94,14 @@ pub enum Refusal {
 }
 
 // Whether a text was read.
-#[derive(Drop)]
+#[derive(Clone, Copy)]
 pub enum Answer {
     Legal,
     Refused(Refusal),
 }
 
 // What a text is read as: the flow, or the refusal and a flow with nothing in it.
-#[derive(Drop)]
+#[derive(Clone, Copy)]
 pub struct Reading {
     pub answer: Answer,
     pub flow: Flow,

@@ -104,7 +104,7 @@ pub fn in_bounds(x: i64) -> i32
 }
 
 // The range of a number: none, or the least and the greatest that it may be.
-#[derive(Drop)]
+#[derive(Clone, Copy)]
 pub enum Range {
     Any,
     Within(i32, i32),

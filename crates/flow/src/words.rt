@@ -10,7 +10,7 @@ ghost use Rattle.flow.specs.Inner.Rows.{branches};
 use crate::{Instruction, Kind, Sort};
 
 // The kind that a word names, if it names one.
-#[derive(Drop)]
+#[derive(Clone, Copy)]
 pub enum Word {
     Known(Kind),
     Unknown,

@@ -1,5 +1,7 @@
 // The bound on the cells that a legal flow takes (document 02, T-01). Every stage is cut off past the most cells, so nothing leaves 64 bits
 // whatever the factors, and the answer is the same.
+#![tactic(auto)]
+
 ghost use Rattle.std.specs.Prelude.{◌≡◌, ◌+◌, ◌*◌, ◌^◌, ◌≤◌, length, take};
 ghost use Rattle.patterns.specs.Patterns.{patterns_of};
 ghost use Rattle.flow.specs.Limits.{max_instructions, max_tapes, max_variables};
@@ -12,7 +14,7 @@ use cells::Cell;
 use flow::{Flow, Instruction, Refusal};
 
 // How many cells a flow takes: so many at most, or more than are used; or why its text is refused.
-#[derive(Drop)]
+#[derive(Clone, Copy)]
 pub enum BoundAnswer {
     AtMost(usize),
     Over,

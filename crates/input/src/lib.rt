@@ -1,10 +1,12 @@
 // The reading of an input to its end. One that cannot be read is told apart from one without bytes: no bytes are a flow (document 02, T-08).
+#![tactic(auto)]
+
 ghost use Rattle.input.specs.Input.{WithinBuffer};
 
 use libc::EINTR;
 
 // How the reading of an input ends: with a number of bytes, or with a read that failed.
-#[derive(Drop)]
+#[derive(Clone, Copy)]
 pub enum Input {
     Bytes(usize),
     Failed,

@@ -2,6 +2,7 @@
 //
 // `run` gives what `row_run` of specs/Run.antt says. The loop indexes the instructions itself, holds the variables and
 // the tapes' places as arrays, and lends these to functions that each do one thing of a step: nothing large is copied.
+#![tactic(auto)]
 
 ghost use Rattle.std.specs.Prelude.{◌≡◌, true, false, cond, ◌&&◌, ◌+◌, ◌-◌, ◌≤◌, ◌<◌, min, leb, pos, length, get_or, set};
 ghost use Rattle.model.specs.Machine.{p_exit, m_exit};
@@ -24,7 +25,7 @@ pub type PerTape = [usize; Flow::TAPES];
 pub type PerInstruction = [u32; Flow::MAX_INSTRUCTIONS];
 
 // How a run ends, or why it was not made.
-#[derive(Drop)]
+#[derive(Clone, Copy)]
 pub enum RunEnd {
     Stopped,
     Spent,
@@ -33,7 +34,7 @@ pub enum RunEnd {
 }
 
 // What a run comes to: its end, the steps and the puts done, and how often each exit was taken, by instruction.
-#[derive(Drop)]
+#[derive(Clone, Copy)]
 pub struct RunAnswer {
     pub end: RunEnd,
     pub steps: u64,
@@ -138,7 +139,7 @@ fn put(
 }
 
 // Where a step goes on, and whether by the first of its targets.
-#[derive(Drop)]
+#[derive(Clone, Copy)]
 pub struct Onward {
     pub first: bool,
     pub next: usize,

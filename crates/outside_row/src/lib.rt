@@ -1,6 +1,8 @@
 // The tables of outside patterns (document 02, T-06), and the row in which a search looks them up (specs/inner/Table.antt).
 //
 // A constant is copied wherever it is read, so the row is made once for a search and lent.
+#![tactic(auto)]
+
 mod tables; // tables.rt: the constants, as the program `tables` prints them
 
 ghost use Rattle.std.specs.Prelude.{◌≡◌, List, [], ℕ, ◌+◌, ◌≤◌, ◌<◌, length, get_or};
@@ -11,7 +13,7 @@ ghost use Rattle.outside_row.specs.Inner.Table.{rank_number, entries_for, IsEntr
 ghost use Rattle.outside_row.specs.Inner.Filling.{LoadedTo, ones_of};
 
 // The sizes of the row (specs/inner/Table.antt).
-#[derive(Drop)]
+#[derive(Clone, Copy)]
 pub struct Table;
 
 impl Table {

@@ -3,6 +3,7 @@
 // w says how many whole numbers there are from C1 to C2; `table` is the row of crate outside_row, lent to all that looks into a pattern.
 // Codes are read, written, compared and ranked by `recall`, `store`, `less` and `codes`, and nowhere else. The ranks of variables outside are
 // looked up in the lent row of outside_row.
+#![tactic(auto)]
 
 ghost use Rattle.std.specs.Prelude.{◌≡◌, true, cond, not, ◌&&◌, List, [], ◌∷◌, ℕ, suc, ◌+◌, ◌*◌, ◌-◌, ◌<◌, ◌≤◌, min, max, pos, length, get_or, set, ltb};
 ghost use Rattle.model.specs.Inner.Lists.{All};

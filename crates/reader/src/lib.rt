@@ -1,6 +1,8 @@
 // The reading of a flow's text.
 //
 // `read` is the reader: what it answers is what `read_flow` of flow/specs/Read.antt says of the text.
+#![tactic(auto)]
+
 mod line; // line.rt: one instruction line
 mod lines; // lines.rt: line 1, the instruction lines, the targets
 

@@ -16,7 +16,7 @@ use flow::{Flow, Head, Instruction, Kind, Refusal, rows, words};
 use text::{Fields, Number};
 
 // A number without a minus, as a byte keeps it, if it is well written.
-#[derive(Drop)]
+#[derive(Clone, Copy)]
 pub enum Small {
     Value(u8),
     Bad,
@@ -35,14 +35,14 @@ pub fn small_at(line: &[u8], cut: Fields, k: usize) -> Small
 }
 
 // The kind of a line and its own number.
-#[derive(Drop)]
+#[derive(Clone, Copy)]
 pub struct Start {
     pub kind: Kind,
     pub number: u8,
 }
 
 // What a line shows before the numbers after its word.
-#[derive(Drop)]
+#[derive(Clone, Copy)]
 pub enum Begun {
     Shown(Start),
     Fault(Refusal),
@@ -81,7 +81,7 @@ pub fn number_at(line: &[u8], cut: Fields, kind: Kind, k: usize) -> Number
 }
 
 // What a line is read as.
-#[derive(Drop)]
+#[derive(Clone, Copy)]
 pub enum Ended {
     Kept(Instruction),
     Fault(Refusal),

@@ -39,7 +39,7 @@ pub fn read_head(line: &[u8]) -> Headed
 }
 
 // What the instruction lines are read as: rows past the count hold `stop`.
-#[derive(Drop)]
+#[derive(Clone, Copy)]
 pub struct Lines {
     pub reply: Answer,
     pub count: usize,
@@ -87,7 +87,7 @@ pub fn read_lines(text: &[u8], from: usize, head: Head) -> Lines
 }
 
 // Whether every target names an instruction, or the lowest line with one that does not.
-#[derive(Drop)]
+#[derive(Clone, Copy)]
 pub enum Targets {
     Named,
     Lost(usize),

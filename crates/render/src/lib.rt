@@ -1,5 +1,7 @@
 // The lines of a report (document 01, "The report") and of a bound, in a row. Every function that is not public puts bytes into the row
 // from a place on, and gives the place behind them.
+#![tactic(auto)]
+
 ghost use Rattle.std.specs.Prelude.{◌≡◌, [], ◌∷◌, ◌++◌, ◌+◌, ◌*◌, ◌≤◌, length};
 ghost use Rattle.text.specs.Write.{decimal, ended};
 ghost use Rattle.flow.specs.Limits.{max_instructions};

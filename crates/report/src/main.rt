@@ -1,5 +1,7 @@
 // Prints the report of the flow on standard input, with 4,096 cells lent (document 01, "The report"): the row of `render::report_of`.
 // What cannot be read has no report: then one line says so on standard error, and standard output is empty.
+#![tactic(auto)]
+
 use flow::Flow;
 use input::Input;
 use libc::{STDERR_FILENO, STDIN_FILENO, STDOUT_FILENO};

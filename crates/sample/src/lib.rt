@@ -1,5 +1,7 @@
 // The tapes of a sample (document 01, "Distances and configurations"). The way to an entry of a finished table is walked forward, and the
 // records that its steps take are written into the lent row.
+#![tactic(auto)]
+
 ghost use Rattle.std.specs.Prelude.{◌≡◌, true, ◌&&◌, ℕ, suc, ◌≤◌, ◌<◌, length, get_or};
 ghost use Rattle.model.specs.Language.{Flow as FlowOf};
 ghost use Rattle.model.specs.Machine.{exit_if};
@@ -23,7 +25,7 @@ use flow::{Flow, Refusal};
 use sample_row::Walk;
 
 // How a wish for a sample ends: with a sample, with none, since no tapes take the exit, or with a refusal.
-#[derive(Drop)]
+#[derive(Clone, Copy)]
 pub enum SampleEnd {
     Taken,
     Never,
@@ -31,7 +33,7 @@ pub enum SampleEnd {
 }
 
 // What a wish for a sample comes to: the exit's distance, the number of tapes, and their lengths in the record row; all 0 without a sample.
-#[derive(Drop)]
+#[derive(Clone, Copy)]
 pub struct SampleAnswer {
     pub end: SampleEnd,
     pub distance: usize,

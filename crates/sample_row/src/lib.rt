@@ -3,6 +3,8 @@
 // A path is followed step by step. The values that the run holds are known (`Walk`); at a read the record is chosen so that the
 // values get the pattern of the next configuration (choices.rt), the numbers written so far make room for it (moves.rt), and it
 // goes behind the records of its tape. `tape_records` hands back one tape's part of the row.
+#![tactic(auto)]
+
 mod moves; // moves.rt: one outward
 mod choices; // choices.rt: which record
 
@@ -22,7 +24,7 @@ use flow::Flow;
 pub type Values = [i32; Flow::VARIABLES];
 
 // What a read gets: a number that needs no room, or the number next to m, outward; then the numbers beyond m move.
-#[derive(Drop)]
+#[derive(Clone, Copy)]
 pub enum Choice {
     Take(i32),
     Between(bool, i32),
@@ -30,7 +32,7 @@ pub enum Choice {
 
 // What is held while a sample is written: the values of the variables, how many records each tape has so far, and the cell where
 // its part of the row starts.
-#[derive(Drop)]
+#[derive(Clone, Copy)]
 pub struct Walk {
     pub values: Values,
     pub counts: [usize; Flow::TAPES],
@@ -38,7 +40,7 @@ pub struct Walk {
 }
 
 // A part of a row: the cell where it starts, and how many records it holds.
-#[derive(Drop)]
+#[derive(Clone, Copy)]
 pub struct Span {
     pub start: usize,
     pub count: usize,

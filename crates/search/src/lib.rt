@@ -1,6 +1,8 @@
 // The search over the configurations of a flow in the order of distance, in lent cells. Entries are expanded in the order in which they were
 // stored. A step that takes no exit costs nothing: what it leads to is stored, at the same distance, before an exit is followed. The entry is then
 // settled.
+#![tactic(auto)]
+
 ghost use Rattle.std.specs.Prelude.{◌≡◌, ◌<◌, get_or};
 ghost use Rattle.outside_row.specs.Inner.Table.{IsTable};
 ghost use Rattle.configuration.specs.Inner.Step.{start_of};
@@ -17,7 +19,7 @@ use flow::Flow;
 use search_visit::Grown;
 
 // What a search answers: the number of entries.
-#[derive(Drop)]
+#[derive(Clone, Copy)]
 pub enum Searched {
     Done(usize),
     Full,

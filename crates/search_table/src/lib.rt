@@ -1,6 +1,7 @@
 // Passes over the entries of a finished table of configurations (specs/inner/Table.antt): the distances of all exits, the entry that is nearest to
 // one exit, and how many records each tape yields on the way to an entry. What they find is said in specs/inner/Passes.antt and specs/inner/Way.antt;
 // the laws of proofs/ lead from there to the distances and the count of configurations of document 01.
+#![tactic(auto)]
 
 ghost use Rattle.std.specs.Prelude.{◌≡◌, not, cond, ◌&&◌, ◌||◌, ◌+◌, ◌≤◌, ◌<◌, length, get_or, eqb};
 ghost use Rattle.model.specs.Machine.{p_exit, m_exit, exit_if};
@@ -21,7 +22,7 @@ use configuration::{Action, Op, Words, place};
 use flow::Flow;
 
 // The distances of the exits p and m of every instruction, that of instruction i at i - 1; 0 for none.
-#[derive(Drop)]
+#[derive(Clone, Copy)]
 pub struct Distances {
     pub p: [u32; Flow::MAX_INSTRUCTIONS],
     pub m: [u32; Flow::MAX_INSTRUCTIONS],
@@ -59,7 +60,7 @@ fn kept(cell: u32, taken: bool, d: u32) -> u32
 }
 
 // What is listed for the two exits of one instruction.
-#[derive(Drop)]
+#[derive(Clone, Copy)]
 struct Numbers {
     p: u32,
     m: u32,

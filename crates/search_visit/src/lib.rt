@@ -3,6 +3,8 @@
 // A read that finds a record leads to a fan: words that differ in one variable. The fan depends on its first member alone, so the cell of that
 // member has a mark for each variable that says that the fan is stored whole. A configuration lies in at most four fans, one for each variable,
 // and a fan is walked once: a search is linear in the configurations.
+#![tactic(auto)]
+
 ghost use Rattle.std.specs.Prelude.{◌≡◌, ◌<◌};
 ghost use Rattle.outside_row.specs.Inner.Table.{IsTable};
 ghost use Rattle.pattern_word.specs.Inner.Pattern.{Width, low, assign_of};
@@ -15,14 +17,14 @@ use cells::{Cell, Found};
 use configuration::{Action, Op, Words, place};
 
 // What a visit leads to: the entry and the number of entries.
-#[derive(Drop)]
+#[derive(Clone, Copy)]
 pub enum Visited {
     At(usize, usize),
     Full,
 }
 
 // What visits lead to: the number of entries.
-#[derive(Drop)]
+#[derive(Clone, Copy)]
 pub enum Grown {
     To(usize),
     Full,

@@ -2,6 +2,8 @@
 //
 // A table is what is kept of all rows of four ranks from -4 to 4, which are gone through in rising order. If there are v variables, the first v
 // ranks of a row are theirs, and the others are 0. A rank is held as a digit, four more than the rank.
+#![tactic(auto)]
+
 use libc::STDOUT_FILENO;
 
 const VARIABLES: usize = 4;

@@ -1,5 +1,7 @@
 // The tape maker: what a maker calls. Each function takes a flow as text, refuses a faulty request itself, and has no condition on
 // its caller; specs/ has the promise of each but `tape`, whose definitions are in crate sample_row.
+#![tactic(auto)]
+
 mod running; // running.rt: the request for a run
 mod planning; // planning.rt: what a search needs of a flow
 mod reporting; // reporting.rt: the report
@@ -56,7 +58,7 @@ pub fn run(
 }
 
 // Whether a report was made.
-#[derive(Drop)]
+#[derive(Clone, Copy)]
 pub enum ReportEnd {
     Given,
     Refused(Refusal),
@@ -64,7 +66,7 @@ pub enum ReportEnd {
 
 // The report of a flow: its instructions, its reachable configurations, and for each instruction whether it has two exits and the
 // distance of each; 0 stands for none.
-#[derive(Drop)]
+#[derive(Clone, Copy)]
 pub struct ReportAnswer {
     pub end: ReportEnd,
     pub instructions: usize,

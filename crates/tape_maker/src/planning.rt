@@ -11,7 +11,7 @@ use configuration::{Op, Words, forms};
 use flow::{Flow, Instruction};
 
 // What a search needs of a flow: its instructions, prepared; the width of its constants, C1 and C2; and the start.
-#[derive(Drop)]
+#[derive(Clone, Copy)]
 pub struct Plan {
     pub ops: [Op; Flow::MAX_INSTRUCTIONS],
     pub w: u64,

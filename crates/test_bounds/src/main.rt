@@ -1,5 +1,7 @@
 // Prints of each flow of data/flows its name, what the program `bound` prints of it, and if that is a number, its report with exactly so many
 // cells lent. The flows, and the answers in stdout, are made by tests/bounds.py.
+#![tactic(auto)]
+
 use tape_maker::{BoundAnswer, Cell};
 
 // The report with so many of the cells lent.

@@ -1,9 +1,11 @@
 // The flows of a data file, one after another: a line with a name, the lines of the text, and an empty line.
+#![tactic(auto)]
+
 ghost use Rattle.std.specs.Prelude.{◌≡◌};
 ghost use Rattle.test_cases.specs.Cases.{line_end, text_start, empty_line, next_case, Ordered};
 
 // Where the case that starts at a place has the end of its name, and the start and the end of its text.
-#[derive(Drop)]
+#[derive(Clone, Copy)]
 pub struct Case {
     pub named: usize,
     pub start: usize,

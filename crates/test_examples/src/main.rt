@@ -1,6 +1,8 @@
 // The pieces of document 01, the text of no bytes (document 02, T-08) and the merge of flows/, run and printed. Of a run: the end, the steps
 // and the puts, then how often each exit of the first instructions was taken. Of a flow: its report. The stored output has what the
 // documents say.
+#![tactic(auto)]
+
 use tape_maker::{Cell, RunAnswer, RunEnd};
 
 fn print_count(n: u32) {

@@ -2,6 +2,8 @@
 // the flow, written back from its rows. A text with bytes in it that is read is the only one of its flow with bytes, so the lines written
 // back have to be its own.
 // The texts, and the answers in stdout, are made by tests/readings.py.
+#![tactic(auto)]
+
 use flow::{Answer, Flow, Instruction, Kind, Refusal, lent, words};
 use input::Input;
 use libc::STDOUT_FILENO;

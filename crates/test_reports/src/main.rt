@@ -1,5 +1,6 @@
 // Prints the report of each flow of data/flows: the flow's name, and its report as the program `report` prints it. Then the same of the
 // flows of data/wide, with 65,536 cells lent. The flows, and the reports in stdout, are made by tests/reports.py.
+#![tactic(auto)]
 
 fn print_report(text: &[u8], wide: bool) {
     if wide {

@@ -2,6 +2,8 @@
 // exit's distance, or none. After a distance it says `taken` if the run of the sample takes the exit first as exit number that, and has read
 // all records of the sample by then, and if the rest of the row is as it was. The flows, and the answers in stdout, are made by
 // tests/reports.py.
+#![tactic(auto)]
+
 ghost use Rattle.std.specs.Prelude.{◌<◌};
 ghost use Rattle.flow.specs.Limits.{max_instructions};
 

@@ -1,5 +1,7 @@
 // What the test programs print on standard output, piece by piece. These functions return nothing and lend nothing, so a contract has
 // nothing to speak of. The program `report` calls none of them: it prints the row of `render::report_of`, which is proved.
+#![tactic(auto)]
+
 use flow::Refusal;
 use libc::STDOUT_FILENO;
 use tape_maker::{Cell, ReportAnswer};

@@ -1,4 +1,6 @@
 // Lines, fields and numbers of a byte text. Knows bytes only, and nothing of what the text says.
+#![tactic(auto)]
+
 ghost use Rattle.std.specs.Prelude.{◌≡◌, [], ◌+◌, ◌-◌, ◌*◌, min, ◌≤◌, ◌<◌, pos, length, get_or, drop};
 ghost use Rattle.std.proofs.Math.Option.{map};
 ghost use Rattle.text.specs.Split.{split, same_word};
@@ -8,14 +10,14 @@ ghost use Rattle.text.specs.Inner.Capped.{cap, capped_number};
 ghost use Rattle.text.specs.Inner.Divided.{until};
 
 // A field read as a number. A size above CAP is given as CAP, with its sign.
-#[derive(Drop)]
+#[derive(Clone, Copy)]
 pub enum Number {
     Value(i64),
     Bad,
 }
 
 // How many fields a line has, and where the first of them end.
-#[derive(Drop)]
+#[derive(Clone, Copy)]
 pub struct Fields {
     pub count: usize,
     pub ends: [usize; Fields::KEPT],

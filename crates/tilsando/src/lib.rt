@@ -1,6 +1,8 @@
 // The tape maker for callers in C and Rust: the functions of tape_maker with numbers and rows only. include/tilsando.h says what a
 // caller passes and gets. No function has a condition on its caller. A refusal is told by the number returned alone: every row is as
 // it was, save the work cells, which are 0.
+#![tactic(auto)]
+
 mod rows; // rows.rt: values into the first cells of a lent row
 mod told; // told.rt: an answer in rows, or a refusal in one number
 
