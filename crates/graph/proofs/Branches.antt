@@ -116,10 +116,13 @@ start-settled = settle a_settled (omega arith) (λ l y e z. none l y e z)
       where
         leads : (l : Lane) (y : Place) → Leads a l y → toll l ≡ 0 → Held (entries 2) y
         leads free y p z = held 2 1 (omega arith) p
+        leads left y p z = elim p [ ]
+        leads right y p z = elim p [ ]
 
     none : (l : Lane) (y : Place) → Leads b l y → toll l ≡ 0 → Held (entries 2) y
     none left y p z = absurd (omega arith)
     none right y p z = absurd (omega arith)
+    none free y p z = elim p [ ]
 
 -- a and b are expanded: c and d, one further
 b_done : Searching lanes (entries 4) 2 2
@@ -130,6 +133,8 @@ b_done = expand d_new.0 (omega arith) leads
       where
         none : (l : Lane) (y : Place) → Leads a l y → 0 < toll l → Held (entries 2) y
         none free y p z = absurd (omega arith)
+        none left y p z = elim p [ ]
+        none right y p z = elim p [ ]
 
     c_new : Turn 3 2 1 1
     c_new = found 2 2 1 1 1 left (a_done, next_expanded a_done (omega arith) (omega arith)) (omega arith) (omega arith) refl refl refl refl
@@ -140,6 +145,7 @@ b_done = expand d_new.0 (omega arith) leads
     leads : (l : Lane) (y : Place) → Leads b l y → 0 < toll l → Held (entries 4) y
     leads left y p z = held 4 2 (omega arith) p
     leads right y p z = held 4 3 (omega arith) p
+    leads free y p z = elim p [ ]
 
 -- c is settled by e, and so is d, whose edge leads to e too; e has no edge that costs nothing
 e_settled : Searching lanes (entries 5) 5 2
@@ -150,16 +156,21 @@ e_settled = settle d_settled (omega arith) none
       where
         leads : (l : Lane) (y : Place) → Leads c l y → toll l ≡ 0 → Held (entries 5) y
         leads free y p z = held 5 4 (omega arith) p
+        leads left y p z = elim p [ ]
+        leads right y p z = elim p [ ]
 
     d_settled : Searching lanes (entries 5) 4 2
     d_settled = settle c_settled (omega arith) leads
       where
         leads : (l : Lane) (y : Place) → Leads d l y → toll l ≡ 0 → Held (entries 5) y
         leads free y p z = held 5 4 (omega arith) p
+        leads left y p z = elim p [ ]
+        leads right y p z = elim p [ ]
 
     none : (l : Lane) (y : Place) → Leads e l y → toll l ≡ 0 → Held (entries 5) y
     none left y p z = absurd (omega arith)
     none right y p z = absurd (omega arith)
+    none free y p z = elim p [ ]
 
 -- c and d lead to nothing further; e leads to itself and to f, which is settled by itself
 end : Searching lanes (entries 6) 6 6
@@ -170,9 +181,13 @@ end = expand f_settled (omega arith) f_none
       where
         c_none : (l : Lane) (y : Place) → Leads c l y → 0 < toll l → Held (entries 5) y
         c_none free y p z = absurd (omega arith)
+        c_none left y p z = elim p [ ]
+        c_none right y p z = elim p [ ]
 
         d_none : (l : Lane) (y : Place) → Leads d l y → 0 < toll l → Held (entries 5) y
         d_none free y p z = absurd (omega arith)
+        d_none left y p z = elim p [ ]
+        d_none right y p z = elim p [ ]
 
     e_done : Searching lanes (entries 6) 5 5
     e_done =
@@ -182,15 +197,20 @@ end = expand f_settled (omega arith) f_none
         leads : (l : Lane) (y : Place) → Leads e l y → 0 < toll l → Held (entries 6) y
         leads left y p z = held 6 4 (omega arith) p
         leads right y p z = held 6 5 (omega arith) p
+        leads free y p z = elim p [ ]
 
     f_settled : Searching lanes (entries 6) 6 5
     f_settled = settle e_done (omega arith) leads
       where
         leads : (l : Lane) (y : Place) → Leads f l y → toll l ≡ 0 → Held (entries 6) y
         leads free y p z = held 6 5 (omega arith) p
+        leads left y p z = elim p [ ]
+        leads right y p z = elim p [ ]
 
     f_none : (l : Lane) (y : Place) → Leads f l y → 0 < toll l → Held (entries 6) y
     f_none free y p z = absurd (omega arith)
+    f_none left y p z = elim p [ ]
+    f_none right y p z = elim p [ ]
 
 closed : Closed lanes (entries 6) 6
 closed = finish end (omega arith)
@@ -231,6 +251,24 @@ quiet_alone d y z free free p n q = (refl, q ∙ sym p)
 quiet_alone e y z left m p n q = absurd (omega arith)
 quiet_alone e y z right m p n q = absurd (omega arith)
 quiet_alone f y z free free p n q = (refl, q ∙ sym p)
+quiet_alone a y z free left p n q = elim q [ ]
+quiet_alone a y z free right p n q = elim q [ ]
+quiet_alone a y z left m p n q = elim p [ ]
+quiet_alone a y z right m p n q = elim p [ ]
+quiet_alone b y z free m p n q = elim p [ ]
+quiet_alone c y z free left p n q = elim q [ ]
+quiet_alone c y z free right p n q = elim q [ ]
+quiet_alone c y z left m p n q = elim p [ ]
+quiet_alone c y z right m p n q = elim p [ ]
+quiet_alone d y z free left p n q = elim q [ ]
+quiet_alone d y z free right p n q = elim q [ ]
+quiet_alone d y z left m p n q = elim p [ ]
+quiet_alone d y z right m p n q = elim p [ ]
+quiet_alone e y z free m p n q = elim p [ ]
+quiet_alone f y z free left p n q = elim q [ ]
+quiet_alone f y z free right p n q = elim q [ ]
+quiet_alone f y z left m p n q = elim p [ ]
+quiet_alone f y z right m p n q = elim p [ ]
 
 abbrev passed : ℕ → Place
 passed t = get_or (a ∷ b ∷ c ∷ e ∷ f ∷ []) t a

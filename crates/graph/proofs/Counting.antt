@@ -15,11 +15,13 @@ module _ {A : Type 0} where
   unfoldable without : (a : A) (m : List A) → In a m → List A
   without a (b ∷ m) (inl e) = m
   without a (b ∷ m) (inr h) = b ∷ without a m h
+  without a [] x' = elim x' [ ]
 
   length_without : (a : A) (m : List A) (h : In a m) → suc (length (without a m h)) ≡ length m
   unfolding without
   length_without a (b ∷ m) (inl e) = refl
   length_without a (b ∷ m) (inr h) = ap suc (length_without a m h)
+  length_without a [] h = elim h [ ]
 
   in_without : (a : A) (m : List A) (h : In a m) (c : A) → (c ≡ a → ⊥) → In c m → In c (without a m h)
   unfolding without
@@ -27,6 +29,7 @@ module _ {A : Type 0} where
   in_without a (b ∷ m) (inl e) c ne (inr q) = q
   in_without a (b ∷ m) (inr h) c ne (inl q) = inl q
   in_without a (b ∷ m) (inr h) c ne (inr q) = inr (in_without a m h c ne q)
+  in_without a [] h c ne _ = elim h [ ]
 
   pub once_le : (l m : List A) → Once l → ((a : A) → In a l → In a m) → length l ≤ length m
   once_le [] m o f = omega arith
@@ -69,6 +72,7 @@ module _ {A : Type 0} where
   unfolding listed
   in_listed f (suc n) x (inl e) = (0, omega arith, sym e)
   in_listed f (suc n) x (inr h) = let (i, k, e) = in_listed (λ j. f (suc j)) n x h in (suc i, omega arith, e)
+  in_listed f zero x x3 = elim x3 [ ]
 
   pub listed_once : (f : ℕ → A) (n : ℕ) → Different f n → Once (listed f n)
   unfolding listed
@@ -103,10 +107,12 @@ module _ {A B : Type 0} (f : A → B) where
   pub in_map : (a : A) (l : List A) → In a l → In (f a) (map f l)
   in_map a (b ∷ l) (inl e) = inl (ap f e)
   in_map a (b ∷ l) (inr h) = inr (in_map a l h)
+  in_map a [] x' = elim x' [ ]
 
   pub map_in : (b : B) (l : List A) → In b (map f l) → (a : A) × (In a l) × (f a ≡ b)
   map_in b (a ∷ l) (inl e) = (a, inl refl, sym e)
   map_in b (a ∷ l) (inr h) = let (x, p, q) = map_in b l h in (x, inr p, q)
+  map_in b [] x' = elim x' [ ]
 
   pub once-map : (l : List A) → Once l → ((a b : A) → In a l → In b l → f a ≡ f b → a ≡ b) → Once (map f l)
   once-map [] o one = tt

@@ -35,7 +35,7 @@ abbrev pub Candidate : (lo hi : ℤ) → ℕ → List ℤ → ℤ → List ℤ �
 Candidate lo hi n v x w = (y : ℤ) × Near lo hi (suc (2 * n)) y × Fits lo hi v x w y
 
 module _ {lo hi : ℤ} (z : Inside lo hi (pos 0)) (S : Side lo hi) where
-  open S use {out, back, less, next, lt_i, lt_o, tr_i, fa_i, eq_i, next-is, edge, edge_in, inner, order, near-Even, stays}
+  open S use {out, back, less, next, lt_i, lt_o, tr_i, fa_i, eq_i, next-is, edge, edge_in, inner, order, near_even, stays}
 
   module _ (n : ℕ) {v w : List ℤ} (k : Alike lo hi v w) (even : All (Even S n) w) where
     even_at : (i : ℕ) → Even S n (lane_value w i)
@@ -55,13 +55,13 @@ module _ {lo hi : ℤ} (z : Inside lo hi (pos 0)) (S : Side lo hi) where
         go (inl (i, e)) =
             let (j, a, b) = even_at i (subst T (order k (literal edge) (held i) edge_in tt) (lt_o edge (lane_value v i) (omega (arith, lt_i, eq_i)))) in
             let fits = subst (λ (u : ℤ). Fits lo hi v u w (lane_value w i)) e (fits_term (held i) tt k) in
-            (lane_value w i, near-Even (suc (2 * n)) (lane_value w i) (omega arith) (omega arith), fits)
+            (lane_value w i, near_even (suc (2 * n)) (lane_value w i) (omega arith) (omega arith), fits)
         go (inr none) =
             let t = furthest less edge x v w in
             let r = top S edge (inner (pos 0) z) v w x k.size in
             let (j, a, b) = top_even x t r in (
               next t,
-              near-Even (suc (2 * n)) (next t) (omega (arith, next-is t)) (omega (arith, next-is t)),
+              near_even (suc (2 * n)) (next t) (omega (arith, next-is t)) (omega (arith, next-is t)),
               fits_next S v w x t k h none r
                   (λ i e. let (l, c, d) = even_at i (lt_o edge (lane_value w i) (omega (arith, eq_i, next-is t))) in omega (arith, eq_i, next-is t)),
             )

@@ -124,6 +124,7 @@ add_keeps [] l x (inr h) = h
 add_keeps (c ∷ cs) l x (inl (inl e)) = add_keeps cs (insert c l (in_dec c l)) x (inr (insert_keeps c l (in_dec c l) x (inl e)))
 add_keeps (c ∷ cs) l x (inl (inr h)) = add_keeps cs (insert c l (in_dec c l)) x (inl h)
 add_keeps (c ∷ cs) l x (inr h) = add_keeps cs (insert c l (in_dec c l)) x (inr (insert_keeps c l (in_dec c l) x (inr h)))
+add_keeps [] l x (inl x4) = elim x4 [ ]
 
 add_in : (cs l : List Configuration) (x : Configuration) → In x (add_all cs l) → In x cs ⊎ In x l
 add_in [] l x h = inr h
@@ -158,6 +159,7 @@ add_nothing (c ∷ cs) l e x h = go (in_dec c l) e h (add_nothing cs l)
     go (yes k) q (inl p) f = subst (λ (y : Configuration). In y l) (sym p) k
     go (yes k) q (inr p) f = f q x p
     go (no k) q p f = absurd (omega (arith, add_longer cs (c ∷ l)))
+add_nothing [] l e x h = elim h [ ]
 
 -- some configuration of a list is P
 abbrev Some : (Configuration → Type 0) → List Configuration → Type 0
@@ -261,16 +263,20 @@ module _ (lo hi : ℤ) (flow : Flow) where
   among-targets : (k : List Configuration) (c x : Configuration) → In c k → In x (step_targets c) → In x (all_targets k)
   among-targets (d ∷ k) c x (inl e) h = in_left (step_targets d) (all_targets k) x (subst (λ (b : Configuration). In x (step_targets b)) e h)
   among-targets (d ∷ k) c x (inr p) h = in_right (step_targets d) (all_targets k) x (among-targets k c x p h)
+  among-targets [] c x x4 h = elim x4 [ ]
 
   targets_of_lem : (k : List Configuration) (x : Configuration) → In x (all_targets k) → Some (λ c. In x (step_targets c)) k
   targets_of_lem (d ∷ k) x h = either_some (λ c. In x (step_targets c)) d k (in_either (step_targets d) (all_targets k) x h) (targets_of_lem k x)
+  targets_of_lem [] x h = elim h [ ]
 
   in_found : (i : ℕ) (e : Exit) (k : List Configuration) (c : Configuration) → In c k → T (exit_at i e c) → T (found i e k)
   in_found i e (d ∷ k) c (inl p) h = or_left (exit_at i e d) (found i e k) (subst (λ (b : Configuration). T (exit_at i e b)) p h)
   in_found i e (d ∷ k) c (inr p) h = or_right (exit_at i e d) (found i e k) (in_found i e k c p h)
+  in_found i e [] c x'' h = elim x'' [ ]
 
   found_in : (i : ℕ) (e : Exit) (k : List Configuration) → T (found i e k) → Some (λ c. T (exit_at i e c)) k
   found_in i e (d ∷ k) h = either_some (λ c. T (exit_at i e c)) d k (or_in (exit_at i e d) (found i e k) h) (found_in i e k)
+  found_in i e [] h = elim h [ ]
 
   module _ (l : LegalFlow lo hi flow) where
     target-edge : (c c' : Configuration) → In c' (step_targets c) → (o : Option Exit) × Edge lo hi flow c o c'
@@ -311,6 +317,7 @@ module _ (lo hi : ℤ) (flow : Flow) where
             (m, b, onward {k = m} p (subst (Edge lo hi flow c (exit_of flow (trial lo hi flow c))) (sym q) still) (omega (arith, ap weight e)))
         go none e (inr i) f = f i
         go (some z) e i f = f i
+    quiet_near n [] near x h = elim h [ ]
 
     quieted_near : (n j : ℕ) (k : List Configuration) → ((x : Configuration) → In x k → Near n x) → (x : Configuration) → In x (quieted j k) → Near n x
     quieted_near n zero k near x h = near x h
@@ -332,6 +339,7 @@ module _ (lo hi : ℤ) (flow : Flow) where
             let (o, k) = target-edge c y t in
             (m + weight o, omega (arith, weight-small o), onward r k refl)
         go y (inr p) f = let (m, b, r) = f y p in (m, omega arith, r)
+    ball_near zero x h = elim h [ ]
 
     -- a settled ball holds all of them
     quieted_keeps : (j : ℕ) (k : List Configuration) (x : Configuration) → In x k → In x (quieted j k)
@@ -347,6 +355,7 @@ module _ (lo hi : ℤ) (flow : Flow) where
         head : (p : Option Exit) (y : Configuration) → weight p ≡ 0 → In y (if_none p y (quiet_targets k))
         head none y z = inl refl
         head (some z) y h = absurd (omega arith)
+    quiet_target [] {o = o} {c = c} {x = x} edge free x5 = elim x5 [ ]
 
         first : {o : Option Exit} {x : Configuration} → Edge lo hi flow c o x → weight o ≡ 0 → c ≡ d → In x (quiet_targets (d ∷ k))
         first still z q =

@@ -39,6 +39,7 @@ each-among : (cs : List ℤ) (x : ℤ) → In x cs → Inside (least cs) (greate
 unfolding least greatest
 each-among (c ∷ cs) x (inl e) = wider c (least cs) (greatest cs) x (zero-among cs) (inl e)
 each-among (c ∷ cs) x (inr h) = wider c (least cs) (greatest cs) x (zero-among cs) (inr (each-among cs x h))
+each-among [] x x3 = elim x3 [ ]
 
 pub zero_basic : (flow : Flow) → Inside (C1 flow) (C2 flow) (pos 0)
 unfolding C1 C2

@@ -11,6 +11,7 @@ module _ {A : Type 0} (P : A → Type 0) where
   pub all_in : (l : List A) (x : A) → All P l → In x l → P x
   all_in (y ∷ l) x (h, hs) (inl e) = subst P (sym e) h
   all_in (y ∷ l) x (h, hs) (inr k) = all_in l x hs k
+  all_in [] x _ x5 = elim x5 [ ]
 
   pub all_of : ((x : A) → P x) → (l : List A) → All P l
   all_of f [] = tt
@@ -75,6 +76,7 @@ set_like (suc n) (suc i) a = ap (λ t. a ∷ t) (set_like n i a)
 pub in_left : {A : Type 0} (l m : List A) (x : A) → In x l → In x (l ++ m)
 in_left (y ∷ l) m x (inl e) = inl e
 in_left (y ∷ l) m x (inr h) = inr (in_left l m x h)
+in_left {A = A} [] m x x3 = elim x3 [ ]
 
 pub in_right : {A : Type 0} (l m : List A) (x : A) → In x m → In x (l ++ m)
 in_right [] m x h = h

@@ -39,7 +39,7 @@ holds (a ∷ v) x nz = go (ℤ_discrete a x) (holds v x nz)
     go (no f) (inr g) = inr (absent f g)
 
 module _ {lo hi : ℤ} (S : Side lo hi) where
-  open S use {out, back, less, next, lt_i, lt_o, tr_i, fa_i, eq_i, next-is, edge, edge_in, inner, order, fits, keeps, Near-next}
+  open S use {out, back, less, next, lt_i, lt_o, tr_i, fa_i, eq_i, next-is, edge, edge_in, inner, order, fits, keeps, near_next}
 
   -- t is m, or a w i whose v i lies before x
   abbrev pub Source : (m : ℤ) → List ℤ → List ℤ → (x t : ℤ) → Type 0
@@ -174,7 +174,7 @@ module _ {lo hi : ℤ} (S : Side lo hi) where
   shift_near t n u k = go (less t u)
     where
       go : (b : Bool) → Near lo hi (suc n) (cond b (next u) u)
-      go true = Near-next n u k
+      go true = near_next n u k
       go false = near-wider (suc n) (omega arith) k
 
 pub near-term : {lo hi : ℤ} → Inside lo hi (pos 0) → (n : ℕ) (v : List ℤ) → All (Near lo hi n) v → (t : Term) → Known lo hi t → Near lo hi n (term v t)
@@ -207,14 +207,14 @@ module _ {lo hi : ℤ} (z : Inside lo hi (pos 0)) {w v : List ℤ} (k : Alike lo
       alike = alike_trans k (alike-map (λ u. u) z still v)
 
   module _ (S : Side lo hi) where
-    open S use {out, back, less, next, lt_i, eq_i, next-is, edge, edge_in, inner, Near-next}
+    open S use {out, back, less, next, lt_i, eq_i, next-is, edge, edge_in, inner, near_next}
 
     -- a new number beyond the edge: what lies beyond t moves, and next to t is room
     pub room-beyond : (y t : ℤ) → T (less edge y) → Absent w y → Top S edge w v y t → Room lo hi w v y (shift S t) (next t)
     room-beyond y t h none r = record {
       faithful = faithful;
       near = shift_near S t;
-      new-near = λ n q. Near-next n t (top_is S edge w v y t r (Near lo hi n) (inside-near n edge_in) (λ i j. near-term z n v q (held i) tt));
+      new-near = λ n q. near_next n t (top_is S edge w v y t r (Near lo hi n) (inside-near n edge_in) (λ i j. near-term z n v q (held i) tt));
       alike = alike;
       fits = fits_next S w (map (shift S t) v) y t alike h none shifted free;
     }

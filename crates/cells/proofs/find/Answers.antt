@@ -1,0 +1,50 @@
+-- `cells::find` meets its contract: the walk along the chain passes no entry of the node (proofs/Walk.antt). It goes to earlier entries, so the
+-- place where it stands is the measure.
+use mathlib.Core.Path.{sym, ap, ap₂, ◌∙◌}
+use mathlib.Core.Logic.{⊎_elim}
+use Prim.Native.Nat.{◌-◌, ◌<◌}
+use native.Mathlib.Omega.{arith}
+use lib.ListN.{length}
+use Rattle.cells.specs.Inner.Index.{Node, node, FoundIs}
+use Rattle.cells.proofs.Entering.{filled-room}
+use Rattle.cells.proofs.Walk.{walk_start, walk_falls, walk_next}
+use Rattle.cells.proofs.find.Goals.{In-loop-cur}
+use Rattle.cells.proofs.find.Goals as goal
+
+-- the entry where the walk stands is there
+there : (c : In-loop-cur) → c.loop-cur.cur - 1 < length c.args.cells.now
+there c = omega (arith, filled-room _ c.requires, c.loop-cur.invariant.within, c.loop-cur-test.true)
+
+-- ---- the needs
+pub first-requires : goal.first-requires
+first-requires c =  record { filled_in = c.requires; b_lt_size = c.bucket-h.ensures.1 }
+
+pub loop-cur-init : goal.loop-cur-init
+loop-cur-init c =     walk_start _ _ _ _ _ _ _ c.requires.index _ _ _ c.bucket-h.ensures.0 c.first.ensures c.wide-cur.ensures
+
+pub word-requires : goal.word-requires
+word-requires c = (there (goal.at.word-requires c).In-loop-cur, omega arith)
+
+pub word-requires-then-word-place : goal.word-requires-then-word-place
+word-requires-then-word-place c = (there (goal.at.word-requires-then-word-place c).In-loop-cur, omega arith)
+
+pub returns-then-word-pattern : goal.returns-then-word-pattern
+unfolding FoundIs
+returns-then-word-pattern c =     (omega arith, ap₂ node (sym c.word.ensures ∙ c.if-word-place.true) (sym c.word-then-word-place.ensures ∙ c.if-word-pattern.true))
+
+pub get-requires : goal.get-requires
+get-requires c = (there (goal.at.get-requires c).In-loop-cur, omega arith)
+
+pub loop-cur-smaller : goal.loop-cur-smaller
+loop-cur-smaller c =     let more : 0 < c.loop-cur.cur = omega (arith, c.loop-cur-test.true) in
+    omega (arith, c.wide-cur-in-loop-cur.ensures, c.get.ensures, walk_falls _ _ _ _ _ _ _ c.requires.index _ c.loop-cur.invariant more)
+
+pub loop-cur-preserved : goal.loop-cur-preserved
+loop-cur-preserved c =     let more : 0 < c.loop-cur.cur = omega (arith, c.loop-cur-test.true) in
+    walk_next _ _ _ _ _ _ _ c.requires.index _ c.loop-cur.invariant more
+    (⊎_elim (λ w. λ e. w.2.left (w.1.ensures ∙ ap (λ (x : Node). x.pattern) e)) (λ w. λ e. w.left (c.word.ensures ∙ ap (λ (x : Node). x.place) e))
+    c.if-word-place.branch) _ (c.wide-cur-in-loop-cur.ensures ∙ c.get.ensures)
+
+pub returns : goal.returns
+unfolding FoundIs
+returns c j l e = omega (arith, c.loop-cur.invariant.left j l e)

@@ -1,0 +1,6 @@
+-- `cells::put` meets its contract: proofs/Fields.antt, for a cell of full length.
+use Rattle.cells.proofs.Fields.{stored}
+use Rattle.cells.proofs.put.Goals as goal
+
+pub returns : goal.returns
+returns c = stored _ _ _ _ c.whole.ensures c.requires.1

@@ -1,0 +1,34 @@
+-- `weight` meets its contract: each arm is that of `weight_by`.
+use mathlib.Core.Path.{refl}
+use Rattle.configuration.proofs.Arms as arms
+use Rattle.configuration.proofs.weight.Goals as goal
+
+pub returns-in-Read : goal.returns-in-Read
+returns-in-Read c = arms.weight_arm _ _ _ c.in-Read.is refl
+
+pub returns-in-Assign : goal.returns-in-Assign
+returns-in-Assign c = arms.weight_arm _ _ _ c.in-Assign.is refl
+
+pub returns-in-Test : goal.returns-in-Test
+returns-in-Test c = arms.weight_arm _ _ _ c.in-Test.is refl
+
+pub returns-in-Go : goal.returns-in-Go
+returns-in-Go c = arms.weight_arm _ _ _ c.in-Go.is refl
+
+pub returns-in-Stop : goal.returns-in-Stop
+returns-in-Stop c = arms.weight_arm _ _ _ c.in-Stop.is refl
+
+pub enum_told-1 : goal.enum_told-1
+enum_told-1 c = search
+
+pub enum_told-in-Assign : goal.enum_told-in-Assign
+enum_told-in-Assign c = search
+
+pub enum_told-in-Test : goal.enum_told-in-Test
+enum_told-in-Test c = search
+
+pub enum_told-in-Go : goal.enum_told-in-Go
+enum_told-in-Go c = search
+
+pub enum_told-in-Stop : goal.enum_told-in-Stop
+enum_told-in-Stop c = search

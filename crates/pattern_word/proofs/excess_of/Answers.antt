@@ -1,0 +1,11 @@
+-- `excess_of` meets its contract.
+use Prim.Native.Nat.{◌-◌}
+use native.Mathlib.Omega.{arith}
+use Rattle.pattern_word.proofs.Recalled as recalled
+use Rattle.pattern_word.proofs.excess_of.Goals as goal
+
+pub returns-then-d-w : goal.returns-then-d-w
+returns-then-d-w c = let a = c.args in recalled.select_inside a.d a.w a.i (a.d - a.w) (omega arith)
+
+pub returns : goal.returns
+returns c = let a = c.args in recalled.select_outside a.d a.w a.i (a.d - a.w) (omega arith)

@@ -1,0 +1,27 @@
+-- `fan_at` meets its contract: a record from C1 to C2 adds its offset in lane v to the first member.
+use native.Mathlib.Omega.{arith}
+use Rattle.pattern_word.proofs.FourLanes as lanes
+use Rattle.pattern_word.proofs.Fans as fans
+use Rattle.pattern_word.proofs.fan_at.Goals as goal
+
+pub overflow_sub-k : goal.overflow_sub-k
+overflow_sub-k c = (c.is_inside.ensures.v_lt_max_variables c.if-is_inside.true).1
+
+pub unit-requires : goal.unit-requires
+unit-requires c = (c.is_inside.ensures.v_lt_max_variables c.if-is_inside.true).0
+
+pub overflow_mul-result : goal.overflow_mul-result
+overflow_mul-result c =     let p = (c.requires.width, c.requires.first_value, c.requires.values_value) in
+    let f = fans.member_fits _ p.0 _ _ _ _ (c.is_inside.ensures.v_lt_max_variables c.if-is_inside.true) p.1.0 c.unit.ensures in
+    record { fits = omega arith }
+
+pub overflow_add-result : goal.overflow_add-result
+overflow_add-result c =     let p = (c.requires.width, c.requires.first_value, c.requires.values_value) in
+    record { fits = fans.member_fits _ p.0 _ _ _ _ (c.is_inside.ensures.v_lt_max_variables c.if-is_inside.true) p.1.0 c.unit.ensures }
+
+pub returns-then-is_inside : goal.returns-then-is_inside
+returns-then-is_inside c =     let p = (c.requires.width, c.requires.first_value, c.requires.values_value) in
+    fans.member-sum _ p.0 _ _ _ _ (c.is_inside.ensures.v_lt_max_variables c.if-is_inside.true) p.1.0 c.unit.ensures
+
+pub returns : goal.returns
+returns c = lanes.assign-is _ _ _ _ _ _ _ c.requires.values_value c.with_value-s.ensures c.word.ensures

@@ -1,0 +1,17 @@
+-- `store` meets its contract: no code of a variable outside, or the index of the entry.
+use native.Mathlib.Omega.{arith}
+use Rattle.pattern_word.proofs.Recalled as recalled
+use Rattle.pattern_word.proofs.store.Goals as goal
+
+pub slots-s-requires : goal.slots-s-requires
+slots-s-requires c = recalled.codes_under _ c.requires.width _ c.requires.are_codes
+
+pub returns-then-s-eq0 : goal.returns-then-s-eq0
+returns-then-s-eq0 c =     let a = (c.requires.width, c.requires.are_codes) in
+    recalled.store_none _ a.0 _ a.1 (omega (arith, c.slots-s.ensures.0))
+
+pub returns : goal.returns
+returns c =     let s = c.slots-s.ensures in
+    let a = (c.requires.width, c.requires.are_codes) in
+    recalled.store_some _ a.0 _ a.1 _ _
+    (c.index_at-n.ensures.1 _ (recalled.store_entry _ a.0 _ a.1 _ s.0 (λ e. omega (arith, e))) s.0) c.store_from.ensures

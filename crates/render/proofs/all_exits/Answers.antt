@@ -1,0 +1,29 @@
+-- `render::all_exits` meets its contract: who puts the lines of the instructions from i on behind those before them puts all.
+use mathlib.Core.Path.{refl}
+use Prim.Native.Nat.{◌-◌}
+use native.Mathlib.Omega.{arith}
+use borrow.Author.Rules.{rules}
+use Rattle.render.proofs.Puts.{put-none, put_both}
+use Rattle.render.proofs.Lines.{lines_next, lines-last}
+use Rattle.render.proofs.all_exits.Goals as goal
+
+pub loop-i-init : goal.loop-i-init
+loop-i-init c = (omega arith, omega arith, refl, λ row r p. p)
+
+pub loop-i-preserved : goal.loop-i-preserved
+loop-i-preserved c =     let a = c.args in
+    let l = c.loop-i in
+    let next = lines_next a.t3 a.t4 a.t5 64 l.i (omega arith) in (
+      omega arith,
+      search rules,
+      search rules,
+      λ row r q. l.invariant.3 row r (rw next (put_both c.exit_lines-end.ensures.0 q)),
+    )
+
+pub returns : goal.returns
+returns c =     let a = c.args in
+    let l = c.loop-i in
+    (l.invariant.3 l.out l.end (rw (lines-last a.t3 a.t4 a.t5 64 l.i (omega arith)) (put-none l.out l.end)), omega arith)
+
+pub shape_of-out : goal.shape_of-out
+shape_of-out c = c.loop-i.invariant.2

@@ -1,0 +1,21 @@
+-- `sample_row::moved_values` meets its contract.
+use mathlib.Core.Path.{ap, ◌∙◌}
+use mathlib.Core.List.{map}
+use lib.IntN.{ℤ}
+use mir.Syntax.{w32}
+use mir.Facts.{to_z-of_z}
+use borrow.Author.Rules.{rules}
+use Rattle.sample_row.specs.Inner.Moves.{moved}
+use Rattle.sample_row.proofs.Arms.{choice_take_map, between-map}
+use Rattle.sample_row.proofs.moved_values.Goals as goal
+
+pub returns-in-Take : goal.returns-in-Take
+returns-in-Take c =     let g = c.enum_told-1.given in
+    let a = c.args in
+    choice_take_map a.choice g.0.0 g.1 a.values
+
+pub returns-in-Between : goal.returns-in-Between
+returns-in-Between c =     let g = c.choice-1.given in
+    let a = c.args in
+    c.shift.ensures ∙ ap (λ (q : ℤ). map (moved g.0.0 q) a.values) (to_z-of_z {w = w32} {z = g.0.1.0} (search rules))
+    ∙ between-map a.choice g.0.0 g.0.1.0 g.1 a.values

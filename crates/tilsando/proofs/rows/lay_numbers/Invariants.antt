@@ -1,0 +1,11 @@
+-- `tilsando::rows::lay_numbers` meets its contract: proofs/Laying.antt. The measure is what is left of the values.
+use Prim.Native.Nat.{◌-◌}
+use lib.ListN.{length}
+use Rattle.tilsando.proofs.Laying.{LaidTo}
+use Rattle.tilsando.proofs.rows.lay_numbers.Given as goal
+
+abbrev pub invariant-loop-i : goal.invariant-loop-i
+invariant-loop-i l = LaidTo l.values l.initial.row l.row l.i
+
+abbrev pub decreases-loop-i : goal.decreases-loop-i
+decreases-loop-i l = length l.values - l.i
