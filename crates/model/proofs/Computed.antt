@@ -355,7 +355,6 @@ module _ (lo hi : ℤ) (flow : Flow) where
         head : (p : Option Exit) (y : Configuration) → weight p ≡ 0 → In y (if_none p y (quiet_targets k))
         head none y z = inl refl
         head (some z) y h = absurd (omega arith)
-    quiet_target [] {o = o} {c = c} {x = x} edge free x5 = elim x5 [ ]
 
         first : {o : Option Exit} {x : Configuration} → Edge lo hi flow c o x → weight o ≡ 0 → c ≡ d → In x (quiet_targets (d ∷ k))
         first still z q =
@@ -369,6 +368,7 @@ module _ (lo hi : ℤ) (flow : Flow) where
         later : (p : Option Exit) (y : Configuration) → In x (quiet_targets k) → In x (if_none p y (quiet_targets k))
         later none y i = inr i
         later (some z) y i = i
+    quiet_target [] {o = o} {c = c} {x = x} edge free x5 = elim x5 [ ]
 
     near_ball : (n : ℕ) → T (settled n) → {m : ℕ} {x : Configuration} → Path (configurations lo hi flow) m x → m < n → In x (ball n)
     near_ball zero s r h = absurd (omega arith)
