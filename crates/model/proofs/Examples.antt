@@ -6,7 +6,7 @@ use Prim.Native.Nat.{ℕ, suc}
 use lib.IntN.{pos, negsuc}
 use lib.ListN.{length}
 use lib.Dec.{eqb}
-use Rattle.model.specs.Language.{read, put, copy, less, over, under, nop, stop, Instruction, Flow, constants, all_constants, least, greatest, C1, C2}
+use Rattle.model.specs.Language.{read, copy, less, over, under, nop, stop, Instruction, Flow, constants, all_constants, least, greatest, C1, C2}
 use Rattle.model.specs.Machine.{p_exit, m_exit}
 use Rattle.model.specs.Pattern.{above, below, among, different, mark, pattern}
 use Rattle.model.specs.Distance.{Distance, NoDistance}

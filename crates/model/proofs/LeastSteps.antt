@@ -3,15 +3,15 @@
 -- run counts steps).
 use mathlib.Core.Path.{◌≡◌, refl, sym, ap, ◌∙◌, subst}
 use mathlib.Core.List.{List}
-use mathlib.Core.Option.{Option, some}
-use Prim.Native.Nat.{ℕ, zero, suc, ◌+◌, ◌<◌, ◌≤◌}
+use mathlib.Core.Option.{Option}
+use Prim.Native.Nat.{ℕ, zero, suc, ◌+◌, ◌≤◌}
 use native.Mathlib.Omega.{arith}
 use lib.IntN.{ℤ}
 use lib.ListN.{length}
 use Rattle.graph.specs.Lists.{In}
 use Rattle.graph.proofs.LeastWay.{spent, Way, QuietAlone, least-steps}
 use Rattle.model.specs.Language.{Flow}
-use Rattle.model.specs.Machine.{State, Exit, step, exit_of, start, run}
+use Rattle.model.specs.Machine.{State, Exit, exit_of, start, run}
 use Rattle.model.specs.Distance.{weight, exits_taken, Takes, Distance}
 use Rattle.model.specs.Configuration.{Configuration, configuration, Reachable}
 use Rattle.model.proofs.View.{exit_view, exit_view_lem}

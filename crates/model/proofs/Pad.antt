@@ -13,7 +13,7 @@ use lib.ListN.{length-append, length-replicate, take-append-drop, replicate-appe
 use lib.Seq.{set-append_left, take_at, drop_at, length-take-le}
 use Rattle.model.specs.Language.{Flow, instruction, Field, tape, output, variable, target, constant, fields}
 use Rattle.model.specs.Machine.{State, Exit, exit_if, has_record, exit_of, run}
-use Rattle.model.specs.Distance.{weight, exits_taken, StepTakes, Takes, Distance, NoDistance}
+use Rattle.model.specs.Distance.{weight, exits_taken, Takes, Distance, NoDistance}
 use Rattle.model.specs.Pattern.{Mark, inside, equal, among, different, mark, pattern}
 use Rattle.graph.specs.Lists.{In, Census}
 use Rattle.graph.proofs.Counting.{census-map}

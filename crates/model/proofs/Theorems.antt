@@ -1,22 +1,22 @@
 -- Distances and configurations, by the graph: the distance to an exit is the least cost of a path that ends with it, and none where no path does; what
 -- is reachable is what paths reach. A path is realised by tapes that are read to their ends, so each distance has a sample.
-use mathlib.Core.Path.{◌≡◌, refl, sym, ap, ◌∙◌, subst, subst₂}
+use mathlib.Core.Path.{◌≡◌, refl, sym, ap, ◌∙◌, subst}
 use mathlib.Core.List.{List}
 use mathlib.Core.Option.{Option, some}
-use Prim.Native.Nat.{ℕ, suc, ◌+◌, ◌-◌, ◌≤◌}
+use Prim.Native.Nat.{ℕ, ◌+◌, ◌-◌, ◌≤◌}
 use native.Mathlib.Omega.{arith}
 use native.Mathlib.Decide.{ℕ_discrete}
 use lib.IntN.{ℤ}
 use lib.ListN.{length}
 use Rattle.graph.specs.Inner.Graph.{Path, Reached, ExitPath, ExitDistance, NoExit}
 use Rattle.model.specs.Language.{Flow}
-use Rattle.model.specs.Machine.{Exit, step, exit_of, start, run}
+use Rattle.model.specs.Machine.{Exit, step, exit_of, run}
 use Rattle.model.specs.Distance.{weight, exits_taken, StepTakes, Takes, Distance, NoDistance}
 use Rattle.model.specs.Pattern.{Mark}
 use Rattle.model.specs.Configuration.{Configuration, configuration, Reachable}
 use Rattle.model.specs.Sample.{Sample}
 use Rattle.model.proofs.Runs.{fair_run, exits-few, exits_rise}
-use Rattle.model.proofs.Graph.{Edge, configurations, run-path, simulate}
+use Rattle.model.proofs.Graph.{configurations, run-path, simulate}
 use Rattle.model.proofs.Follow.{stands-sample}
 use Rattle.model.proofs.Path.{Real, extend, realise}
 use Rattle.model.specs.Inner.View.{LegalFlow}

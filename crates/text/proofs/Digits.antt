@@ -148,7 +148,7 @@ module _ (size : Option ℕ) (v : ℤ) (read : answer size ≡ Value v) where
   held : to_z w64 (of_z w64 v) ≡ v
   held =
       let (n, s, e) = size-value size v read in
-      to_z-of_z (rw e (record { sfits = omega arith }))
+      to_z-of_z {w = w64} (rw e (record { sfits = omega arith }))
 
   pub minus_fits : SFits w64 (pos 0 -ℤ to_z w64 (of_z w64 v))
   minus_fits =

@@ -1,12 +1,10 @@
 -- `text::divide` meets its contract: `count` fields are passed, and the next one begins at `at`.
 use mathlib.Core.Path.{◌≡◌, refl}
-use mathlib.Core.Logic.{⊎_elim}
-use Prim.Native.Nat.{◌-◌}
 use native.Mathlib.Omega.{arith}
 use lib.ListN.{length, length-set}
 use Rattle.text.specs.Inner.Divided.{kept}
 use Rattle.text.proofs.Dividing.{none_passed, EndStored, end-room, no_room, one_passed, all_passed}
-use Rattle.text.proofs.divide.Goals.{Joined-count-lt-KEPT}
+use Rattle.text.proofs.divide.Goals.{Joined-count-lt-KEPT, then-count-lt-KEPT, else-count-lt-KEPT}
 use Rattle.text.proofs.divide.Goals as goal
 
 pub loop-count-init : goal.loop-count-init
@@ -17,13 +15,13 @@ stored : (c : Joined-count-lt-KEPT) → let l = c.loop-count in (length c.if-cou
 stored c =
     let l = c.loop-count in
     let comma = c.end_of-comma.result in
-    ⊎_elim
-    (λ w. rw w.1 (simp length-set l.invariant.0, end-room l.ends l.count comma l.invariant.0 (omega arith)))
-    (λ w. rw w.1 (l.invariant.0, no_room l.ends l.count comma (omega arith)))
-    c.if-count-lt-KEPT.branch
+    elim c.if-count-lt-KEPT.branch [
+      | then-count-lt-KEPT w ↦ rw w.ends-is (simp length-set l.invariant.0, end-room l.ends l.count comma l.invariant.0 w.if-count-lt-KEPT.true)
+      | else-count-lt-KEPT w ↦ rw w.ends-is (l.invariant.0, no_room l.ends l.count comma w.if-count-lt-KEPT.false)
+    ]
 
 pub returns-then-comma-line : goal.returns-then-comma-line
-returns-then-comma-line c =     let line = c.args.line.now in
+returns-then-comma-line c = let line = c.args.line.now in
     let l = c.loop-count in
     let e = c.end_of-comma in
     let s = stored (goal.at.returns-then-comma-line c).Joined-count-lt-KEPT in
@@ -31,7 +29,7 @@ returns-then-comma-line c =     let line = c.args.line.now in
     all _ (omega arith) (omega arith)
 
 pub loop-count-preserved : goal.loop-count-preserved
-loop-count-preserved c =     let line = c.args.line.now in
+loop-count-preserved c = let line = c.args.line.now in
     let l = c.loop-count in
     let e = c.end_of-comma in
     let s = stored (goal.at.loop-count-preserved c).Joined-count-lt-KEPT in

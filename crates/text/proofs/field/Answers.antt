@@ -9,24 +9,24 @@ use Rattle.text.proofs.field.Goals.{Else-count-k, Else-k-eq0}
 use Rattle.text.proofs.field.Goals as goal
 
 pub returns-then-count-k : goal.returns-then-count-k
-returns-then-count-k c =     let a = c.args in
-    sym (field-none a.line.now a.t2 a.k a.count c.requires.0 c.if-count-k.true)
+returns-then-count-k c = let a = c.args in
+    sym (field-none a.line.now a.ends a.k a.count c.requires.0 c.if-count-k.true)
 
 -- what is known of field k where the line has it
-between : (c : Else-count-k) → Between c.args.line.now c.args.t2 c.args.k
+between : (c : Else-count-k) → Between c.args.line.now c.args.ends c.args.k
 between c = c.requires.0.between c.args.k c.requires.1 c.if-count-k.false
 
 pub returns-then-k-eq0 : goal.returns-then-k-eq0
-returns-then-k-eq0 c =     let a = c.args in
-    field_cut a.line.now a.t2 a.k 0 (begins-first a.t2 a.k c.if-k-eq0.true) (between (goal.at.returns-then-k-eq0 c).Else-count-k)
+returns-then-k-eq0 c = let a = c.args in
+    field_cut a.line.now a.ends a.k 0 (begins-first a.ends a.k c.if-k-eq0.true) (between (goal.at.returns-then-k-eq0 c).Else-count-k)
 
 -- a field that is not the first
-later : (c : Else-k-eq0) → let a = c.args in begins a.t2 a.k ≡ get_or a.t2 (a.k - 1) 0 + 1
-later c = let a = c.args in begins-later a.t2 a.k c.if-k-eq0.false
+later : (c : Else-k-eq0) → let a = c.args in begins a.ends a.k ≡ get_or a.ends (a.k - 1) 0 + 1
+later c = let a = c.args in begins-later a.ends a.k c.if-k-eq0.false
 
 pub returns : goal.returns
-returns c =     let a = c.args in
-    field_cut a.line.now a.t2 a.k _ (omega (arith, later (goal.at.returns c).Else-k-eq0)) (between (goal.at.returns c).Else-count-k)
+returns c = let a = c.args in
+    field_cut a.line.now a.ends a.k _ (omega (arith, later (goal.at.returns c).Else-k-eq0)) (between (goal.at.returns c).Else-count-k)
 
 pub slice_bounds-result-count : goal.slice_bounds-result-count
 slice_bounds-result-count c = omega arith

@@ -10,14 +10,14 @@ unfolding capped_number
 returns-then-f-eq0 c = sym (ap answer (natural_empty c.args.f.now c.if-f-eq0.true))
 
 pub returns-then-f-eq1 : goal.returns-then-f-eq1
-returns-then-f-eq1 c =     let f = c.args.f.now in
+returns-then-f-eq1 c = let f = c.args.f.now in
     c.read_digits.ensures ∙ sym (ap answer (natural-one f c.if-f-eq1.true))
 
 pub returns-then-f-eq48 : goal.returns-then-f-eq48
 unfolding capped_number
-returns-then-f-eq48 c =     let f = c.args.f.now in
+returns-then-f-eq48 c = let f = c.args.f.now in
     sym (ap answer (natural-zero f (omega arith) c.if-f-eq48.true))
 
 pub returns : goal.returns
-returns c =     let f = c.args.f.now in
+returns c = let f = c.args.f.now in
     c.read_digits-2.ensures ∙ sym (ap answer (natural-more f (omega arith) c.if-f-eq48.false))
