@@ -30,6 +30,7 @@ pub in_among : (x : ℤ) (l : List ℤ) → In x l → T (among x l)
 unfolding among
 in_among x (y ∷ l) (inl e) = or_left (equal x y) (among x l) (equal_out x y e)
 in_among x (y ∷ l) (inr h) = or_right (equal x y) (among x l) (in_among x l h)
+in_among x [] x'' = elim x'' [ ]
 
 unfoldable pub distinct : List ℤ → Bool
 distinct [] = true

@@ -142,6 +142,8 @@ module _ {lo hi : ℤ} (z : Inside lo hi (pos 0)) where
       keep_beside (is_out lo hi) (place lo hi (above (suc k))) (map (place lo hi) m) (map (rank_place lo hi) (map signed_rank m)) (places-kept m hs)
   places-kept (below (suc k) ∷ m) (h, hs) =
       keep_beside (is_out lo hi) (place lo hi (below (suc k))) (map (place lo hi) m) (map (rank_place lo hi) (map signed_rank m)) (places-kept m hs)
+  places-kept (above zero ∷ m) h = elim h.0 [ ]
+  places-kept (below zero ∷ m) h = elim h.0 [ ]
 
   module _ (v w : List ℤ) (e : keep (is_out lo hi) v ≡ keep (is_out lo hi) w) where
     rank_of_place : (m : Mark) → Possible lo hi m → signed_rank (mark lo hi v (place lo hi m)) ≡ signed_rank (mark lo hi w (rank_place lo hi (signed_rank m)))
@@ -149,6 +151,8 @@ module _ {lo hi : ℤ} (z : Inside lo hi (pos 0)) where
     rank_of_place (inside c) h = ap signed_rank (mark-inside lo hi v c h) ∙ sym (ap signed_rank (mark-inside lo hi w (pos 0) z))
     rank_of_place (above (suc k)) h = ap signed_rank (mark-kept lo hi v w e (place lo hi (above (suc k))))
     rank_of_place (below (suc k)) h = ap signed_rank (mark-kept lo hi v w e (place lo hi (below (suc k))))
+    rank_of_place (above zero) h = elim h [ ]
+    rank_of_place (below zero) h = elim h [ ]
 
     ranks_of-marks : (m : List Mark) → All (Possible lo hi) m
         → map signed_rank (map (mark lo hi v) (map (place lo hi) m)) ≡ map signed_rank (map (mark lo hi w) (map (rank_place lo hi) (map signed_rank m)))

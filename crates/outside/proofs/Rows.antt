@@ -33,6 +33,7 @@ module _ {A B : Type 0} (f : A → List B) where
   unfolding bind
   in_bind a b (c ∷ l) (inl e) k = in_left (f c) (bind f l) b (subst (λ (x : A). In b (f x)) e k)
   in_bind a b (c ∷ l) (inr h) k = in_right (f c) (bind f l) b (in_bind a b l h k)
+  in_bind a b [] x'' k = elim x'' [ ]
 
   pub bind_in : (b : B) (l : List A) → In b (bind f l) → (a : A) × (In a l) × (In b (f a))
   unfolding bind
@@ -102,6 +103,7 @@ module _ {A : Type 0} where
   rows-length l (suc n) r h =
       let (a, t, p, k, e) = led_in r l (rows l n) h in
       ap length (sym e) ∙ ap suc (rows-length l n t k)
+  rows-length l zero r (inr x'') = elim x'' [ ]
 
   pub rows_all : (l : List A) (n : ℕ) (r : List A) → In r (rows l n) → All (λ x. In x l) r
   unfolding rows
@@ -109,6 +111,7 @@ module _ {A : Type 0} where
   rows_all l (suc n) r h =
       let (a, t, p, k, e) = led_in r l (rows l n) h in
       subst (All (λ x. In x l)) e (p, rows_all l n t k)
+  rows_all l zero r (inr x'') = elim x'' [ ]
 
   pub once-rows : (l : List A) (n : ℕ) → Once l → Once (rows l n)
   unfolding rows
@@ -150,6 +153,7 @@ module _ {A : Type 0} where
         go true e (inr k) rest = inr (rest k)
         go false e (inl q) rest = absurd (subst T (ap p q ∙ e) t)
         go false e (inr k) rest = rest k
+    in_keep x [] h t = elim h [ ]
 
     pub once-keep : (l : List A) → Once l → Once (keep p l)
     unfolding keep

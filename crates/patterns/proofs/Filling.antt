@@ -2,7 +2,7 @@
 -- are those of w to the power of k rows of marks, w numbers lying from lo to hi.
 use mathlib.Core.Path.{◌≡◌, refl, sym, ap₂, ◌∙◌, subst}
 use mathlib.Core.List.{List, [], ◌∷◌, map}
-use mathlib.Core.Logic.{inl}
+use mathlib.Core.Logic.{inl, inr}
 use Prim.Native.Nat.{ℕ, zero, suc, ◌+◌, ◌-◌, ◌*◌, ◌^◌}
 use native.Mathlib.Nat.{one-mul, pow-zero, pow-succ'}
 use native.Mathlib.Omega.{arith}
@@ -72,6 +72,8 @@ module _ {lo hi : ℤ} (z : Inside lo hi (pos 0)) where
   in_choices (inside c) h = in_map inside c (inside_numbers lo hi) (in_numbers c h)
   in_choices (above (suc k)) h = inl refl
   in_choices (below (suc k)) h = inl refl
+  in_choices (above zero) h = elim h [ ]
+  in_choices (below zero) h = elim h [ ]
 
   choices_in : (r : ℤ) (m : Mark) → In m (choices lo hi r) → (signed_rank m ≡ r) × Possible lo hi m
   unfolding choices
@@ -80,6 +82,8 @@ module _ {lo hi : ℤ} (z : Inside lo hi (pos 0)) where
       subst (λ t. (signed_rank t ≡ pos 0) × Possible lo hi t) e (refl, numbers_in_lem c k)
   choices_in (pos (suc k)) m (inl e) = subst (λ t. (signed_rank t ≡ pos (suc k)) × Possible lo hi t) (sym e) (refl, tt)
   choices_in (negsuc k) m (inl e) = subst (λ t. (signed_rank t ≡ negsuc k) × Possible lo hi t) (sym e) (refl, tt)
+  choices_in (pos (suc k)) m (inr x3) = elim x3 [ ]
+  choices_in (negsuc k) m (inr x'') = elim x'' [ ]
 
   once_choices : (r : ℤ) → Once (choices lo hi r)
   unfolding choices
@@ -101,6 +105,7 @@ module _ {lo hi : ℤ} (z : Inside lo hi (pos 0)) where
       let (i, j) = choices_in r a p in
       let (is, js) = fill_in rs t k in
       subst (λ t. (map signed_rank t ≡ r ∷ rs) × All (Possible lo hi) t) e (ap₂ ◌∷◌ i is, (j, js))
+  fill_in [] m (inr x'') = elim x'' [ ]
 
   pub once_fill : (r : List ℤ) → Once (fill lo hi r)
   unfolding fill

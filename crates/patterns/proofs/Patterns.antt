@@ -46,6 +46,8 @@ module _ {lo hi : ℤ} (z : Inside lo hi (pos 0)) where
       negative : (n : ℕ) → neg_ℤ (pos n) ≡ negsuc k → n ≡ suc k
       negative zero e = omega zarith
       negative (suc n) e = omega zarith
+  mark_known v (above zero) h e = elim h [ ]
+  mark_known v (below zero) h e = elim h [ ]
 
   marks_known : (v : List ℤ) (m : List Mark) → All (Possible lo hi) m → map signed_rank (map (mark lo hi v) (map (place lo hi) m)) ≡ map signed_rank m
       → map (mark lo hi v) (map (place lo hi) m) ≡ m
