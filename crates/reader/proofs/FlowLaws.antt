@@ -108,6 +108,7 @@ rest_fault h ls r e = rw (← kept-fault r (read_lines h 1 ls) e)
 -- ---- the whole text
 until-at : (c : ℕ) (text : List ℕ) (i : ℕ) → i < length text → get_or text i 0 ≡ c → until c text ≤ i
 unfolding until
+until-at c [] i l e = elim l [ ]
 until-at c (x ∷ xs) zero l e = rw (eq-eqb x c e) (omega arith)
 until-at c (x ∷ xs) (suc i) l e = go (eqb x c) (until-at c xs i (omega arith) e)
   where

@@ -13,7 +13,7 @@ returns-then-count-eq0 c = let a = c.args in
 
 pub returns-in-Lost : goal.returns-in-Lost
 unfolding judged
-returns-in-Lost c =  let a = c.args in (
+returns-in-Lost c = let a = c.args in (
   c.refused-in-Lost.ensures
       ∙ finished-judged a.head a.count a.rows c.if-count-eq0.false
       (sym (ap lost_in c.in-Lost.is) ∙ c.check_targets-targets.ensures),
@@ -22,7 +22,7 @@ returns-in-Lost c =  let a = c.args in (
 
 pub returns-in-Named : goal.returns-in-Named
 unfolding judged
-returns-in-Named c =  let a = c.args in (
+returns-in-Named c = let a = c.args in (
   ap (λ (f : Flow). record { answer = Legal; flow = f }) c.new.ensures
       ∙ finished-judged a.head a.count a.rows c.if-count-eq0.false
       (sym (ap lost_in c.in-Named.is) ∙ c.check_targets-targets.ensures),

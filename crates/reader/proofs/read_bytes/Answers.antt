@@ -15,19 +15,19 @@ returns-then-text-ne10 c = c.refused-then-text-ne10.ensures
     ∙ text_unended c.args.text.now (omega arith) c.if-text-ne10.true
 
 pub read_rest-requires : goal.read_rest-requires
-read_rest-requires c =  (
-  line_ends c.args.text.now (omega arith) c.requires c.if-text-ne10.left _ c.end_of-end.ensures.0,
+read_rest-requires c = (
+  line_ends c.args.text.now (omega arith) c.requires c.if-text-ne10.false _ c.end_of-end.ensures.0,
   head-read_fits _ _ (sym c.read_head-headed.ensures ∙ ap head_in c.in-Heads.is),
 )
 
 pub returns-in-Heads : goal.returns-in-Heads
-returns-in-Heads c =  c.read_rest.ensures
-    ∙ text_rest c.args.text.now (omega arith) c.requires c.if-text-ne10.left _ c.end_of-end.ensures.0 _
+returns-in-Heads c = c.read_rest.ensures
+    ∙ text_rest c.args.text.now (omega arith) c.requires c.if-text-ne10.false _ c.end_of-end.ensures.0 _
     (sym (ap head_in c.in-Heads.is) ∙ c.read_head-headed.ensures)
 
 pub returns-in-Fault : goal.returns-in-Fault
-returns-in-Fault c =  c.refused-in-Fault.ensures
-    ∙ text-fault c.args.text.now (omega arith) c.requires c.if-text-ne10.left _ c.end_of-end.ensures.0 _
+returns-in-Fault c = c.refused-in-Fault.ensures
+    ∙ text-fault c.args.text.now (omega arith) c.requires c.if-text-ne10.false _ c.end_of-end.ensures.0 _
     (sym (ap head_in c.in-Fault.is) ∙ c.read_head-headed.ensures)
 
 pub slice_bounds-read_head-end : goal.slice_bounds-read_head-end

@@ -12,7 +12,7 @@ use Rattle.flow.proofs.Instruction.count.Goals.{After-number}
 use Rattle.flow.proofs.Instruction.count.Goals as goal
 
 fits : (c : After-number) → SFits w32 c.number.result
-fits c = sfits_of c.number.type-inv
+fits c = sfits_of c.number.type_inv
 
 some : (c : After-number) → 1 ≤ count c.number.result
 some c = omega (arith, ap count c.number.ensures, c.requires.1)

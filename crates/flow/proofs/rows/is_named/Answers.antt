@@ -1,9 +1,8 @@
 -- `flow::rows::is_named` meets its contract: what the fields from k on come to is what all of them come to.
 use mathlib.Core.Path.{◌≡◌, sym, ap, ap₂, ◌∙◌}
-use Prim.Native.Nat.{◌-◌, ◌<◌}
+use Prim.Native.Nat.{◌<◌}
 use native.Mathlib.Omega.{arith}
 use borrow.Author.Rules.{rules}
-use borrow.Author.Tests.{not-true, not-false}
 use lib.IntN.{ℤ}
 use lib.ListN.{length}
 use mir.Syntax.{w32}
@@ -17,32 +16,32 @@ use Rattle.flow.proofs.RowLaws as laws
 use Rattle.flow.proofs.rows.is_named.Goals.{After-names, In-loop-k}
 use Rattle.flow.proofs.rows.is_named.Goals as goal
 
-within : (c : In-loop-k) →  (c.loop-k.k < 4) × (c.loop-k.k < length (sorts c.args.kind))
+within : (c : In-loop-k) → (c.loop-k.k < 4) × (c.loop-k.k < length (sorts c.args.kind))
 within c = let w = c.width-k-end.ensures in (omega (arith, w, laws.width-bound c.args.kind), omega (arith, w))
 
 -- the test of field k
-tested : (c : After-names) →  let a = c.args in c.names.result ≡ laws.row_holds (is_named a.count) (sorts a.kind) a.t2 c.loop-k.k
+tested : (c : After-names) → let a = c.args in c.names.result ≡ laws.row_holds (is_named a.count) (sorts a.kind) a.numbers c.loop-k.k
 tested c =
     let a = c.args in
-    let f : SFits w32 (at a.t2 c.loop-k.k) = search rules in
+    let f : SFits w32 (at a.numbers c.loop-k.k) = search rules in
     c.names.ensures ∙ ap₂ (λ (s : Sort) (z : ℤ). is_named a.count (field s z)) c.sort_at.ensures (to_z-of_z f)
 
 pub loop-k-init : goal.loop-k-init
-loop-k-init c = let a = c.args in (omega arith, sym (ap (all (is_named a.count)) (laws.fields-built a.t2 a.kind)))
+loop-k-init c = let a = c.args in (omega arith, sym (ap (all (is_named a.count)) (laws.fields-built a.numbers a.kind)))
 
 pub returns-then-not-names : goal.returns-then-not-names
-returns-then-not-names c =     let a = c.args in
-    laws.test_fails (is_named a.count) (sorts a.kind) a.t2 c.loop-k.k (within (goal.at.returns-then-not-names c).In-loop-k).1 (sym (tested (goal.at.returns-then-not-names c).After-names) ∙ not-true _ c.if-not-names.true) ∙ c.loop-k.invariant.1
+returns-then-not-names c = let a = c.args in
+    laws.test_fails (is_named a.count) (sorts a.kind) a.numbers c.loop-k.k (within (goal.at.returns-then-not-names c).In-loop-k).1 (sym (tested (goal.at.returns-then-not-names c).After-names) ∙ c.if-not-names.true) ∙ c.loop-k.invariant.1
 
 pub loop-k-preserved : goal.loop-k-preserved
-loop-k-preserved c =     let a = c.args in (
-      omega (arith, c.loop-k-test.true),
-      laws.test_holds (is_named a.count) (sorts a.kind) a.t2 c.loop-k.k (within (goal.at.loop-k-preserved c).In-loop-k).1 (sym (tested (goal.at.loop-k-preserved c).After-names) ∙ not-false _ c.if-not-names.false) ∙ c.loop-k.invariant.1,
-    )
+loop-k-preserved c = let a = c.args in (
+  omega (arith, c.loop-k-test.true),
+  laws.test_holds (is_named a.count) (sorts a.kind) a.numbers c.loop-k.k (within (goal.at.loop-k-preserved c).In-loop-k).1 (sym (tested (goal.at.loop-k-preserved c).After-names) ∙ c.if-not-names.false) ∙ c.loop-k.invariant.1,
+)
 
 pub returns : goal.returns
-returns c =     let a = c.args in
-    laws.tests-end (is_named a.count) (sorts a.kind) a.t2 c.loop-k.k (omega (arith, c.width-k-end.ensures, c.loop-k-test.false)) ∙ c.loop-k.invariant.1
+returns c = let a = c.args in
+    laws.tests-end (is_named a.count) (sorts a.kind) a.numbers c.loop-k.k (omega (arith, c.width-k-end.ensures, c.loop-k-test.false)) ∙ c.loop-k.invariant.1
 
 pub sort_at-requires : goal.sort_at-requires
 sort_at-requires c = (within (goal.at.sort_at-requires c).In-loop-k).0

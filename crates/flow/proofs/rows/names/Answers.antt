@@ -9,7 +9,7 @@ use Rattle.flow.proofs.SortLaws.{lies_so}
 use Rattle.flow.proofs.rows.names.Goals as goal
 
 pub returns : goal.returns
-returns c =     let a = c.args in
+returns c = let a = c.args in
     let held = c.held in
     let f : SFits w32 held.result = search rules in
     let g : SFits w32 a.n = search rules in

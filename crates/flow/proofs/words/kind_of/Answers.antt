@@ -8,7 +8,7 @@ use Rattle.flow.proofs.words.kind_of.Goals as goal
 
 pub returns : goal.returns
 unfolding first_named same_word
-returns c =     let w = c.args.w.now in
+returns c = let w = c.args.w.now in
     word_more Read (same_word w (table Read).word) c.found.ensures
     (word_more Put (same_word w (table Put).word) c.found-k-8.ensures
     (word_more Copy (same_word w (table Copy).word) c.found-k-7.ensures

@@ -9,5 +9,5 @@ use Rattle.flow.proofs.RowLaws.{sort_there}
 use Rattle.flow.proofs.words.sort_at.Goals as goal
 
 pub returns : goal.returns
-returns c =     let a = c.args in
+returns c = let a = c.args in
     ap (λ (ss : List Sort). get_or ss a.k Target) c.sorts_of-sorts.ensures ∙ sort_there (sorts a.kind) a.k

@@ -1,6 +1,6 @@
 -- `line::end` meets its contract: each way out is one of the definition's checks.
 use mathlib.Core.Path.{◌≡◌, sym, ap, ◌∙◌}
-use borrow.Author.Tests.{eq-eqb, ne_eqb, not-true, not-false}
+use borrow.Author.Tests.{eq-eqb, ne_eqb}
 use Rattle.model.specs.Language.{Instruction, fields}
 use Rattle.flow.specs.Read.{ok, all, in_range}
 use Rattle.flow.specs.Code.{row}
@@ -20,8 +20,8 @@ tested c = let a = c.args in c.in_range.ensures ∙ sym (ap (λ (x : Instruction
 
 pub returns-then-not-in_range : goal.returns-then-not-in_range
 unfolding end_line
-returns-then-not-in_range c = rw (eq-eqb _ _ c.if-number-count.false, sym (tested (goal.at.returns-then-not-in_range c).After-in_range) ∙ not-true _ c.if-not-in_range.true)
+returns-then-not-in_range c = rw (eq-eqb _ _ c.if-number-count.false, sym (tested (goal.at.returns-then-not-in_range c).After-in_range) ∙ c.if-not-in_range.true)
 
 pub returns : goal.returns
 unfolding end_line
-returns c =     rw (eq-eqb _ _ c.if-number-count.false, sym (tested (goal.at.returns c).After-in_range) ∙ not-false _ c.if-not-in_range.false) (ap ok c.new.ensures)
+returns c = rw (eq-eqb _ _ c.if-number-count.false, sym (tested (goal.at.returns c).After-in_range) ∙ c.if-not-in_range.false) (ap ok c.new.ensures)

@@ -9,5 +9,5 @@ use Rattle.flow.specs.Words.{may_minus}
 use Rattle.reader.proofs.line.number_at.Goals as goal
 
 pub returns : goal.returns
-returns c =     let minus = c.may_minus-minus.ensures ∙ ap may_minus c.sort_at.ensures in
+returns c = let minus = c.may_minus-minus.ensures ∙ ap may_minus c.sort_at.ensures in
     c.read_number.ensures ∙ ap₂ (λ (m : Bool) (f : List ℕ). capped_number (numeral m f)) minus c.field.ensures

@@ -14,20 +14,21 @@ use Rattle.text.specs.Number.{numeral}
 use Rattle.text.specs.Inner.Capped.{capped_number}
 use Rattle.flow.specs.Inner.Reader.{small}
 use Rattle.reader.proofs.LineLaws.{number-natural, number-none, turn_read}
+use Rattle.reader.proofs.line.small_at.Goals.{After-read_number}
 use Rattle.reader.proofs.line.small_at.Goals as goal
 
-module _ (c : tie.After-read-number) where
+module _ (c : After-read_number) where
   abbrev written : List ℕ
-  written = get_or (split c.before.before.before.before.args.line.now) c.before.before.before.before.args.k []
+  written = get_or (split c.args.line.now) c.args.k []
 
   number : capped_number (numeral false written) ≡ c.read_number.result
-  number = sym (c.read_number.ensures ∙ ap (λ (f : List ℕ). capped_number (numeral false f)) c.before.field.ensures)
+  number = sym (c.read_number.ensures ∙ ap (λ (f : List ℕ). capped_number (numeral false f)) c.field.ensures)
 
 pub returns-in_default : goal.returns-in_default
-returns-in_default c =  rw (number-none (written (goal.at.returns-in_default c).After-read_number) (number (goal.at.returns-in_default c).After-read_number ∙ c.in_default.is))
+returns-in_default c = rw (number-none (written (goal.at.returns-in_default c).After-read_number) (number (goal.at.returns-in_default c).After-read_number ∙ c.in_default.is))
 
 pub returns : goal.returns
-returns c =     let v = c.in-Value.x in
+returns c = let v = c.in-Value.x in
     let f : SFits w64 v = search rules in
     let (n, is, cap) = number-natural (written (goal.at.returns c).After-read_number) v (number (goal.at.returns c).After-read_number ∙ c.in-Value.is) in
     rw (is, c.small.ensures ∙ ap (λ (z : ℤ). small (nat_abs z)) (to_z-of_z f) ∙ turn_read n v cap)
