@@ -3,8 +3,8 @@ use Rattle.cells.proofs.Entering.{filled_none, begun_filled}
 use Rattle.cells.proofs.begin.Goals as goal
 
 pub add-requires : goal.add-requires
-add-requires c =     record { filled_in = filled_none c.args.cells.now _ c.requires.size_nonzero c.requires.size_bound; count_lt_size = c.requires.size_nonzero }
+add-requires c = record { filled_in = filled_none c.args.cells.now _ c.requires.size_nonzero c.requires.size_bound; count_lt_size = c.requires.size_nonzero }
 
 pub returns : goal.returns
-returns c =     begun_filled c.args.cells.now _ (filled_none c.args.cells.now _ c.requires.size_nonzero c.requires.size_bound) c.requires.size_nonzero
+returns c = begun_filled c.args.cells.now _ (filled_none c.args.cells.now _ c.requires.size_nonzero c.requires.size_bound) c.requires.size_nonzero
     c.add.ensures.added c.add.ensures.filled_in_2 c.add.ensures.cells_after

@@ -18,7 +18,7 @@ pub overflow_add-spread : goal.overflow_add-spread
 overflow_add-spread c = record { fits = omega (arith, half-word _ _ c.fold-mixed.ensures) }
 
 pub overflow_add-spread-2 : goal.overflow_add-spread-2
-overflow_add-spread-2 c =     let a = c.args in
+overflow_add-spread-2 c = let a = c.args in
     record { fits = omega (arith, steps-few a.pattern a.size, half-word _ _ c.fold-mixed.ensures) }
 
 pub overflow_mul-result : goal.overflow_mul-result
@@ -26,8 +26,8 @@ overflow_mul-result c = scaled_fits _ _ (mod-lt _ (omega arith)) c.requires.1
 
 pub returns : goal.returns
 unfolding bucket_of
-returns c =     let a = c.args in (
-      ap (λ (x : ℕ). (x + a.place % half * 2654435769 + a.pattern % 65536 * (half / a.size)) % half * a.size / half)
-          (c.fold-mixed.ensures ∙ ap (λ (x : ℕ). fold_of (x * 2654435769)) c.fold.ensures),
-      scaled_below _ _ (mod-lt _ (omega arith)) c.requires.0,
-    )
+returns c = let a = c.args in (
+  ap (λ (x : ℕ). (x + a.place % half * 2654435769 + a.pattern % 65536 * (half / a.size)) % half * a.size / half)
+      (c.fold-mixed.ensures ∙ ap (λ (x : ℕ). fold_of (x * 2654435769)) c.fold.ensures),
+  scaled_below _ _ (mod-lt _ (omega arith)) c.requires.0,
+)

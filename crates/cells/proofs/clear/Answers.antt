@@ -1,5 +1,4 @@
 -- `cells::clear` meets its contract: proofs/Zeroing.antt. The measure is what is left of the cells.
-use Prim.Native.Nat.{◌-◌}
 use native.Mathlib.Omega.{arith}
 use mathlib.Core.Path.{refl}
 use Rattle.cells.proofs.Zeroing.{zeroed-more, zeroed-all}

@@ -18,13 +18,13 @@ more c = omega (arith, c.loop-i-test.true)
 
 -- ---- the needs
 pub get-requires : goal.get-requires
-get-requires c =     (omega (arith, falls (goal.at.get-requires c).At-loop-i, c.requires.at_lt_n, c.requires.parents.room, length-column parent_field c.args.cells.now), omega arith)
+get-requires c = (omega (arith, falls (goal.at.get-requires c).At-loop-i, c.requires.at_lt_n, c.requires.parents.room, length-column parent_field c.args.cells.now), omega arith)
 
 pub overflow_add-s : goal.overflow_add-s
-overflow_add-s c =     omega (arith, falls (goal.at.overflow_add-s c).At-loop-i, c.requires.at_lt_n, c.requires.parents.few)
+overflow_add-s c = omega (arith, falls (goal.at.overflow_add-s c).At-loop-i, c.requires.at_lt_n, c.requires.parents.few)
 
 pub loop-i-smaller : goal.loop-i-smaller
-loop-i-smaller c =     omega
+loop-i-smaller c = omega
     (arith, c.wide-i.ensures, c.get.ensures, c.requires.parents.before c.loop-i.i (more (goal.at.loop-i-smaller c).In-loop-i) (omega (arith, falls (goal.at.loop-i-smaller c).At-loop-i, c.requires.at_lt_n)))
 
 pub loop-i-init : goal.loop-i-init

@@ -1,6 +1,5 @@
 -- `cells::find` meets its contract: the walk along the chain passes no entry of the node (proofs/Walk.antt). It goes to earlier entries, so the
 -- place where it stands is the measure.
-use Prim.Native.Nat.{◌-◌}
 use Rattle.cells.specs.Inner.Columns.{place_field, pattern_field, word_column}
 use Rattle.cells.specs.Inner.Index.{node}
 use Rattle.cells.proofs.Walk.{Walking}

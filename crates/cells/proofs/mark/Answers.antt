@@ -9,5 +9,8 @@ use Rattle.cells.proofs.mark.Goals as goal
 
 pub returns : goal.returns
 unfolding marking
-returns c =     record { cells_after = c.put.ensures.is
-          ∙ ap (set (column marks_field c.args.cells.now) c.args.i) (ap₂ bit_or c.get.ensures (shifted_one _ c.requires.1)); only = c.put.ensures.other }
+returns c = record {
+  cells_after = c.put.ensures.is
+      ∙ ap (set (column marks_field c.args.cells.now) c.args.i) (ap₂ bit_or c.get.ensures (shifted_one _ c.requires.1));
+  only = c.put.ensures.other;
+}

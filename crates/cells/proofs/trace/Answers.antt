@@ -29,24 +29,24 @@ pub loop-t-init : goal.loop-t-init
 loop-t-init c = record { tracing = trace_start _ _ _ _; only = λ g n. refl; size = refl }
 
 pub overflow_cast-i : goal.overflow_cast-i
-overflow_cast-i c =     omega (arith, next-before (goal.at.overflow_cast-i c).In-loop-t, c.requires.at_lt_n, c.requires.parents.few)
+overflow_cast-i c = omega (arith, next-before (goal.at.overflow_cast-i c).In-loop-t, c.requires.at_lt_n, c.requires.parents.few)
 
 step-there : (c : In-loop-t) → c.loop-t.t ≤ length c.loop-t.cells
 step-there c =
-    omega (arith, c.loop-t.invariant.tracing.below, small c.before.before, there c.before.before, c.loop-t.invariant.size)
+    omega (arith, c.loop-t.invariant.tracing.below, depth_small c.requires.parents c.requires.at_lt_n c.requires.depth, c.requires.parents.room, c.requires.at_lt_n, length-column parent_field c.args.cells.now, c.loop-t.invariant.size)
 
 pub put-requires : goal.put-requires
 put-requires c = (omega (arith, step-there (goal.at.put-requires c).In-loop-t, c.loop-t-test.true), omega arith)
 
 pub get-requires : goal.get-requires
-get-requires c =     (omega (arith, next-before (goal.at.get-requires c).In-loop-t, there (goal.at.get-requires c).Start, c.loop-t.invariant.size, c.put.auto.0), omega arith)
+get-requires c = (omega (arith, next-before (goal.at.get-requires c).In-loop-t, there (goal.at.get-requires c).Start, c.loop-t.invariant.size, c.put.auto.cells), omega arith)
 
 pub loop-t-preserved : goal.loop-t-preserved
-loop-t-preserved c =     traced_more _ _ _ _ c.loop-t.invariant c.loop-t-test.true (omega (arith, step-there (goal.at.loop-t-preserved c).In-loop-t, c.loop-t-test.true)) c.put.ensures c.put.auto.0
+loop-t-preserved c = traced_more _ _ _ _ c.loop-t.invariant c.loop-t-test.true (omega (arith, step-there (goal.at.loop-t-preserved c).In-loop-t, c.loop-t-test.true)) c.put.ensures c.put.auto.cells
     (c.wide-i.ensures ∙ c.get.ensures)
 
 pub returns : goal.returns
-returns c =     record { traced = trace_end c.loop-t.invariant.tracing c.requires.parents c.requires.at_lt_n c.requires.depth c.loop-t-test.false; only = c.loop-t.invariant.only }
+returns c = record { traced = trace_end c.loop-t.invariant.tracing c.requires.parents c.requires.at_lt_n c.requires.depth c.loop-t-test.false; only = c.loop-t.invariant.only }
 
 pub shape_of-cells : goal.shape_of-cells
 shape_of-cells c = c.loop-t.invariant.size
