@@ -54,7 +54,6 @@ test:
 	@tools/listed
 	@tools/limits
 	@tools/names
-	@rt fmt --check
 	@python3 tests/readings.py
 	@python3 tests/reports.py
 	@python3 tests/bounds.py

@@ -42,6 +42,8 @@ gate 'rt: FAILED\n4 passed, 2 failed\n' 0 0 1 '4 passed, 2 failed'
 gate 'rt: a crate says 5 passed, 0 failed\n' 0 0 1 '0 passed, 1 failed'
 gate '5 passed, 0 failed\nrt: and more\n' 0 0 1 '0 passed, 1 failed'
 gate '0 passed, 0 failed\n' 0 0 1 '0 passed, 1 failed'
+gate 'rt: ok (must-fail edits: 7 refused, 1 bad)\n5 passed, 0 failed\n' 0 0 1 '5 passed, 1 failed'
+gate 'rt: ok (must-fail edits: 7 refused, 0 bad)\n5 passed, 0 failed\n' 0 0 0 '5 passed, 0 failed'
 gate '' 2 0 1 '0 passed, 1 failed'
 gate '' 0 0 1 '0 passed, 1 failed'
 echo "gate: $tried endings as expected"
