@@ -29,6 +29,7 @@ alike_not s r e q = subst T e (subst (λ (x : List ℕ). T (alike x r)) q (alike
 
 pub place_holds : (t : List (List ℕ)) (r : List ℕ) → In r t → get_or t (place_in t r) [] ≡ r
 unfolding place_in
+place_holds [] r h = elim h [ ]
 place_holds (s ∷ t) r h = go (alike s r) refl h (place_holds t r)
   where
     go : (b : Bool) → alike s r ≡ b → In r (s ∷ t) → (In r t → get_or t (place_in t r) [] ≡ r) → get_or (s ∷ t) (cond b 0 (suc (place_in t r))) [] ≡ r
@@ -38,6 +39,7 @@ place_holds (s ∷ t) r h = go (alike s r) refl h (place_holds t r)
 
 pub place-below : (t : List (List ℕ)) (r : List ℕ) → In r t → place_in t r < length t
 unfolding place_in
+place-below [] r h = elim h [ ]
 place-below (s ∷ t) r h = go (alike s r) refl h (place-below t r)
   where
     go : (b : Bool) → alike s r ≡ b → In r (s ∷ t) → (In r t → place_in t r < length t) → cond b 0 (suc (place_in t r)) < suc (length t)

@@ -10,7 +10,7 @@ pub returns-in-Assign : goal.returns-in-Assign
 returns-in-Assign c = arms.not_weighing _ _ c.in-Assign.is c.requires.op_value refl
 
 pub returns-in-Test : goal.returns-in-Test
-returns-in-Test c =     arms.next_test _ _ _ _ _ c.in-Test.is c.holds-b.ensures c.choose.ensures
+returns-in-Test c = arms.next_test _ _ _ _ _ c.in-Test.is c.holds-b.ensures c.choose.ensures
     c.moved.ensures
 
 pub returns-in-Go : goal.returns-in-Go

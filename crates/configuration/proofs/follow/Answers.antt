@@ -7,7 +7,7 @@ pub returns-in-Read : goal.returns-in-Read
 returns-in-Read c = arms.not_going_on _ _ c.in-Read.is c.requires.op_value refl
 
 pub returns-in-Assign : goal.returns-in-Assign
-returns-in-Assign c =     arms.next-assign _ _ _ _ _ _ c.in-Assign.is c.lanes-c.ensures.0
+returns-in-Assign c = arms.next-assign _ _ _ _ _ _ c.in-Assign.is c.lanes-c.ensures.0
     c.term.ensures.0 c.value.ensures c.take.ensures
 
 pub returns-in-Test : goal.returns-in-Test

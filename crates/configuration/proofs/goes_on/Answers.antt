@@ -17,18 +17,3 @@ returns-in-Go c = arms.goes_on_arm _ _ _ c.in-Go.is refl
 
 pub returns-in-Stop : goal.returns-in-Stop
 returns-in-Stop c = arms.goes_on_arm _ _ _ c.in-Stop.is refl
-
-pub enum_told-1 : goal.enum_told-1
-enum_told-1 c = search
-
-pub enum_told-in-Assign : goal.enum_told-in-Assign
-enum_told-in-Assign c = search
-
-pub enum_told-in-Test : goal.enum_told-in-Test
-enum_told-in-Test c = search
-
-pub enum_told-in-Go : goal.enum_told-in-Go
-enum_told-in-Go c = search
-
-pub enum_told-in-Stop : goal.enum_told-in-Stop
-enum_told-in-Stop c = search

@@ -3,5 +3,5 @@ use Rattle.configuration.proofs.Arms as arms
 use Rattle.configuration.proofs.holds.Goals as goal
 
 pub returns : goal.returns
-returns c =     arms.holds_terms _ _ _ _ _ _ _ c.lanes-c.ensures.0 c.term.ensures.0 c.term-2.ensures.0
+returns c = arms.holds_terms _ _ _ _ _ _ _ c.lanes-c.ensures.0 c.term.ensures.0 c.term-2.ensures.0
     c.less.ensures

@@ -11,14 +11,14 @@ few zero h = refl
 few (suc zero) h = refl
 few (suc (suc v)) h = absurd (omega arith)
 
-many : (v : ℕ) → 2 ≤ v → (v ≡ 2 → ⊥) → (v ≡ 3 → ⊥) → (v ≡ 4 → ⊥) → 5043 ≡ first_of v
+many : (v : ℕ) → 5 ≤ v → 5043 ≡ first_of v
 unfolding first_of
-many zero h p q r = absurd (omega arith)
-many (suc zero) h p q r = absurd (omega arith)
-many (suc (suc zero)) h p q r = absurd (p refl)
-many (suc (suc (suc zero))) h p q r = absurd (q refl)
-many (suc (suc (suc (suc zero)))) h p q r = absurd (r refl)
-many (suc (suc (suc (suc (suc v))))) h p q r = refl
+many zero h = absurd (omega arith)
+many (suc zero) h = absurd (omega arith)
+many (suc (suc zero)) h = absurd (omega arith)
+many (suc (suc (suc zero))) h = absurd (omega arith)
+many (suc (suc (suc (suc zero)))) h = absurd (omega arith)
+many (suc (suc (suc (suc (suc v))))) h = refl
 
 pub returns-in-2 : goal.returns-in-2
 unfolding first_of
@@ -33,8 +33,7 @@ unfolding first_of
 returns-in-4 c = sym (ap first_of c.in-4.is)
 
 pub returns-in-0 : goal.returns-in-0
-returns-in-0 c = few _ c.if-v-lt2.true
+returns-in-0 c = few _ (omega arith)
 
 pub returns-in_default : goal.returns-in_default
-returns-in_default c =     let not = c.in_default-1.rest in
-    many _ c.if-v-lt2.false not.0.0.1 not.0.1 not.1
+returns-in_default c = many _ (omega arith)

@@ -4,4 +4,4 @@ use Rattle.outside_row.proofs.Looked.{index_is}
 use Rattle.outside_row.proofs.index_at.Goals as goal
 
 pub returns : goal.returns
-returns c =     (c.wide.ensures.1, λ l is e. c.wide.ensures.0 ∙ index_is _ c.requires.table _ l is e)
+returns c = (c.wide.ensures.1, λ l is e. c.wide.ensures.0 ∙ index_is _ c.requires.table _ l is e)

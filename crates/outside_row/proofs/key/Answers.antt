@@ -19,7 +19,7 @@ key-small v n i is =
 below : (c : In-loop-i) → c.loop-i.i - 1 < c.args.v
 below c = omega (arith, c.loop-i.invariant.0, c.loop-i-test.true)
 
-more : (c : After-number) →  let a = c.args in 8 * c.loop-i.k + c.number.result ≡ key_of (drop (c.loop-i.i - 1) (get_or (entries_for a.v) a.n []))
+more : (c : After-number) → let a = c.args in 8 * c.loop-i.k + c.number.result ≡ key_of (drop (c.loop-i.i - 1) (get_or (entries_for a.v) a.n []))
 more c =
     let inv = c.loop-i.invariant in
     key_more _ c.loop-i.i (c.loop-i.i - 1) _ _ (omega (arith, c.loop-i-test.true)) (omega (arith, listed_width _ _ c.requires.has_entry, below c.before.before)) inv.1
@@ -30,7 +30,7 @@ pub loop-i-init : goal.loop-i-init
 loop-i-init c = (omega arith, key-end _ _ (listed_width _ _ c.requires.has_entry))
 
 pub overflow_mul-k : goal.overflow_mul-k
-overflow_mul-k c =     record { fits = omega (arith, c.loop-i.invariant.1, key-small _ _ c.loop-i.i c.requires.has_entry) }
+overflow_mul-k c = record { fits = omega (arith, c.loop-i.invariant.1, key-small _ _ c.loop-i.i c.requires.has_entry) }
 
 pub overflow_mul-v : goal.overflow_mul-v
 overflow_mul-v c = record { fits = omega (arith, product_few _ _ c.requires.has_entry) }
@@ -39,18 +39,18 @@ pub overflow_add-v : goal.overflow_add-v
 overflow_add-v c = record { fits = omega (arith, product_few _ _ c.requires.has_entry, below (goal.at.overflow_add-v c).In-loop-i, c.requires.has_entry.few) }
 
 pub bounds-ranks-v : goal.bounds-ranks-v
-bounds-ranks-v c =  read_below _ _ _ c.requires.has_entry (below (goal.at.bounds-ranks-v c).In-loop-i) c.args.ranks.now c.requires.ranks_value
+bounds-ranks-v c = read_below _ _ _ c.requires.has_entry (below (goal.at.bounds-ranks-v c).In-loop-i) c.args.ranks.now c.requires.ranks_value
 
 pub number-requires : goal.number-requires
-number-requires c =     read-eight _ _ _ c.requires.has_entry (below (goal.at.number-requires c).In-loop-i) c.args.ranks.now c.requires.ranks_value
+number-requires c = read-eight _ _ _ c.requires.has_entry (below (goal.at.number-requires c).In-loop-i) c.args.ranks.now c.requires.ranks_value
 
 pub overflow_add-k : goal.overflow_add-k
-overflow_add-k c =     record { fits = omega (arith, more (goal.at.overflow_add-k c).After-number, key-small _ _ (c.loop-i.i - 1) c.requires.has_entry) }
+overflow_add-k c = record { fits = omega (arith, more (goal.at.overflow_add-k c).After-number, key-small _ _ (c.loop-i.i - 1) c.requires.has_entry) }
 
 pub loop-i-preserved : goal.loop-i-preserved
 loop-i-preserved c = (omega (arith, below (goal.at.loop-i-preserved c).In-loop-i), more (goal.at.loop-i-preserved c).After-number)
 
 pub returns : goal.returns
-returns c =     let a = c.args in
+returns c = let a = c.args in
     let last : c.loop-i.i ≡ 0 = omega (arith, c.loop-i-test.false) in
     c.loop-i.invariant.1 ∙ ap (λ (i : ℕ). key_of (drop i (get_or (entries_for a.v) a.n []))) last

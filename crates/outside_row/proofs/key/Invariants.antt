@@ -1,7 +1,7 @@
 -- `outside_row::key` meets its contract: k is the key of the ranks from the i-th on (proofs/Keys.antt). The measure is i.
 use mathlib.Core.Path.{◌≡◌}
 use mathlib.Core.List.{[]}
-use Prim.Native.Nat.{◌-◌, ◌≤◌}
+use Prim.Native.Nat.{◌≤◌}
 use lib.ListN.{get_or, drop}
 use Rattle.outside_row.specs.Inner.Table.{entries_for, key_of}
 use Rattle.outside_row.proofs.key.Given as goal

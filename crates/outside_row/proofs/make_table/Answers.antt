@@ -7,19 +7,19 @@ use Rattle.outside_row.proofs.make_table.Goals as goal
 
 pub load-requires : goal.load-requires
 unfolding ones_of
-load-requires c =     record { ranks_value = c.one.ensures; le_v = (omega arith, omega arith, refl); loaded_to = fill_first _ c.blank-row.ensures }
+load-requires c = record { ranks_value = c.one.ensures; le_v = (omega arith, omega arith, refl); loaded_to = fill_first _ c.blank-row.ensures }
 
 pub load-requires-2 : goal.load-requires-2
 unfolding ones_of
-load-requires-2 c =     record { ranks_value = c.two.ensures; le_v = (omega arith, omega arith, refl); loaded_to = c.load.ensures }
+load-requires-2 c = record { ranks_value = c.two.ensures; le_v = (omega arith, omega arith, refl); loaded_to = c.load.ensures }
 
 pub load-requires-3 : goal.load-requires-3
 unfolding ones_of
-load-requires-3 c =     record { ranks_value = c.three.ensures; le_v = (omega arith, omega arith, refl); loaded_to = c.load-2.ensures }
+load-requires-3 c = record { ranks_value = c.three.ensures; le_v = (omega arith, omega arith, refl); loaded_to = c.load-2.ensures }
 
 pub load-requires-4 : goal.load-requires-4
 unfolding ones_of
-load-requires-4 c =     record { ranks_value = c.four.ensures; le_v = (omega arith, omega arith, refl); loaded_to = c.load-3.ensures }
+load-requires-4 c = record { ranks_value = c.four.ensures; le_v = (omega arith, omega arith, refl); loaded_to = c.load-3.ensures }
 
 pub returns : goal.returns
 returns c = fill_last _ c.load-4.ensures

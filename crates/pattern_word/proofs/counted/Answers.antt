@@ -10,12 +10,12 @@ pub returns-then-q-x : goal.returns-then-q-x
 returns-then-q-x c = let a = c.args in (ranks.counted-over a.n a.p a.q a.x a.again (omega arith) (omega arith), omega arith)
 
 pub returns-then-again : goal.returns-then-again
-returns-then-again c =     let a = c.args in
+returns-then-again c = let a = c.args in
     (ranks.counted-again a.n a.p a.q a.x a.again (omega arith) (omega arith) c.if-again.true, omega arith)
 
 pub overflow_add-result : goal.overflow_add-result
 overflow_add-result c = omega arith
 
 pub returns : goal.returns
-returns c =     let a = c.args in
+returns c = let a = c.args in
     (ranks.counted-new a.n a.p a.q a.x a.again (omega arith) (omega arith) c.if-again.false, omega arith)

@@ -11,17 +11,14 @@ pub unit-requires : goal.unit-requires
 unit-requires c = (c.is_inside.ensures.v_lt_max_variables c.if-is_inside.true).0
 
 pub overflow_mul-result : goal.overflow_mul-result
-overflow_mul-result c =     let p = (c.requires.width, c.requires.first_value, c.requires.values_value) in
-    let f = fans.member_fits _ p.0 _ _ _ _ (c.is_inside.ensures.v_lt_max_variables c.if-is_inside.true) p.1.0 c.unit.ensures in
+overflow_mul-result c = let f = fans.member_fits _ c.requires.width _ _ _ _ (c.is_inside.ensures.v_lt_max_variables c.if-is_inside.true) c.requires.first_value c.unit.ensures in
     record { fits = omega arith }
 
 pub overflow_add-result : goal.overflow_add-result
-overflow_add-result c =     let p = (c.requires.width, c.requires.first_value, c.requires.values_value) in
-    record { fits = fans.member_fits _ p.0 _ _ _ _ (c.is_inside.ensures.v_lt_max_variables c.if-is_inside.true) p.1.0 c.unit.ensures }
+overflow_add-result c = record { fits = fans.member_fits _ c.requires.width _ _ _ _ (c.is_inside.ensures.v_lt_max_variables c.if-is_inside.true) c.requires.first_value c.unit.ensures }
 
 pub returns-then-is_inside : goal.returns-then-is_inside
-returns-then-is_inside c =     let p = (c.requires.width, c.requires.first_value, c.requires.values_value) in
-    fans.member-sum _ p.0 _ _ _ _ (c.is_inside.ensures.v_lt_max_variables c.if-is_inside.true) p.1.0 c.unit.ensures
+returns-then-is_inside c = fans.member-sum _ c.requires.width _ _ _ _ (c.is_inside.ensures.v_lt_max_variables c.if-is_inside.true) c.requires.first_value c.unit.ensures
 
 pub returns : goal.returns
 returns c = lanes.assign-is _ _ _ _ _ _ _ c.requires.values_value c.with_value-s.ensures c.word.ensures

@@ -8,7 +8,7 @@ use borrow.Author.Rules.{rules}
 use Rattle.pattern_word.proofs.first_trial.Goals.{After-lesser}
 use Rattle.pattern_word.proofs.first_trial.Goals as goal
 
-least : (c : After-lesser) → c.lesser.result ≡ least_of low c.args.t1
+least : (c : After-lesser) → c.lesser.result ≡ least_of low c.args.values
 least c =
     trials.least-four _ _ (search rules) _ _ _ _ c.lesser-a.ensures c.lesser-b.ensures
     c.lesser-c.ensures c.lesser.ensures

@@ -10,9 +10,10 @@ pub overflow_add-case : goal.overflow_add-case
 overflow_add-case c = omega (arith, cases.position_few _ c.position.ensures, cases.position_few _ c.position-2.ensures)
 
 pub returns-in_default : goal.returns-in_default
-returns-in_default c =     let p = cases.position_few _ c.position.ensures in
+returns-in_default c =
+    let p = cases.position_few _ c.position.ensures in
     let q = cases.position_few _ c.position-2.ensures in
-    absurd (cases.no_case p q c.in_default.rest)
+    absurd (omega arith)
 
 pub returns-in-0 : goal.returns-in-0
 returns-in-0 c = cases.case_answer 0 _ _ _ c.position.ensures c.position-2.ensures c.in-0.is

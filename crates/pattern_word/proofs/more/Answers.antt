@@ -9,6 +9,6 @@ pub returns-then-d-w : goal.returns-then-d-w
 returns-then-d-w c = let a = c.args in (recalled.select_inside a.d a.w a.n (suc a.n) (omega arith), omega arith)
 
 pub returns : goal.returns
-returns c =     let a = c.args in
+returns c = let a = c.args in
     let e : a.n + 1 ≡ suc a.n = omega arith in
     (e ∙ recalled.select_outside a.d a.w a.n (suc a.n) (omega arith), omega arith)

@@ -7,5 +7,5 @@ pub returns-then-v-eq0 : goal.returns-then-v-eq0
 returns-then-v-eq0 c = recalled.recall_none _ _ (omega (arith, c.outs-v.ensures.0))
 
 pub returns : goal.returns
-returns c =     recalled.recall_some _ _ _ _ _ _ c.outs-v.ensures.0 c.index-n.ensures
+returns c = recalled.recall_some _ _ _ _ _ _ c.outs-v.ensures.0 c.index-n.ensures
     c.key_at-k.ensures c.recall_from.ensures

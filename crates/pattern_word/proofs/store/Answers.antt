@@ -7,11 +7,9 @@ pub slots-s-requires : goal.slots-s-requires
 slots-s-requires c = recalled.codes_under _ c.requires.width _ c.requires.are_codes
 
 pub returns-then-s-eq0 : goal.returns-then-s-eq0
-returns-then-s-eq0 c =     let a = (c.requires.width, c.requires.are_codes) in
-    recalled.store_none _ a.0 _ a.1 (omega (arith, c.slots-s.ensures.0))
+returns-then-s-eq0 c = recalled.store_none _ c.requires.width _ c.requires.are_codes (omega (arith, c.slots-s.ensures.0))
 
 pub returns : goal.returns
-returns c =     let s = c.slots-s.ensures in
-    let a = (c.requires.width, c.requires.are_codes) in
-    recalled.store_some _ a.0 _ a.1 _ _
-    (c.index_at-n.ensures.1 _ (recalled.store_entry _ a.0 _ a.1 _ s.0 (λ e. omega (arith, e))) s.0) c.store_from.ensures
+returns c = let s = c.slots-s.ensures in
+    recalled.store_some _ c.requires.width _ c.requires.are_codes _ _
+    (c.index_at-n.ensures.1 _ (recalled.store_entry _ c.requires.width _ c.requires.are_codes _ s.0 (λ e. omega (arith, e))) s.0) c.store_from.ensures

@@ -28,7 +28,7 @@ pub returns-then-n-lt0 : goal.returns-then-n-lt0
 returns-then-n-lt0 c = below c.args.n (rw (to_z-of_z c.ranges.n) at c.if-n-lt0.true)
 
 pub returns-then-n-gt255 : goal.returns-then-n-gt255
-returns-then-n-gt255 c =  past c.args.n (rw (to_z-of_z c.ranges.n) at c.if-n-gt255.true)
+returns-then-n-gt255 c = past c.args.n (rw (to_z-of_z c.ranges.n) at c.if-n-gt255.true)
 
 -- the number is one of a byte
 abbrev number : Else-n-gt255 → ℤ

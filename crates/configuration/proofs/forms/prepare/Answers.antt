@@ -20,7 +20,7 @@ narrow : (s : Start) → let x = s.args.x in SFits w32 x.first × SFits w32 x.se
 narrow s = (search rules, search rules, search rules, search rules)
 
 pub returns : goal.returns
-returns c =     let x = c.args.x in
+returns c = let x = c.args.x in
     prepared c.args.lo x c.requires
     (in-byte x.first (narrow (goal.at.returns c).Start).0 _ c.byte-a.ensures)
     (in-byte x.second (narrow (goal.at.returns c).Start).1 _ c.byte-b.ensures)
