@@ -7,7 +7,7 @@ pub overflow_add-result : goal.overflow_add-result
 overflow_add-result c = omega arith
 
 pub returns : goal.returns
-returns c =     let r = c.args.range in
+returns c = let r = c.args.range in
     omega (
       arith,
       offsets.wide_offset r.lo r.hi c.offset_of.result

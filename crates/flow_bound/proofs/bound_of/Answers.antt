@@ -22,12 +22,12 @@ tape_sets-ends-requires c = c.requires.0.tapes
 
 pub pattern_count-patterns-requires : goal.pattern_count-patterns-requires
 unfolding flow_of
-pattern_count-patterns-requires c =     let legal = c.requires.0 in
+pattern_count-patterns-requires c = let legal = c.requires.0 in
     (legal.variables.0, legal.variables.1, omega (arith, width_is (goal.at.pattern_count-patterns-requires c).After-width-w, legal-width (flow_of c.args.flow) legal))
 
 pub returns : goal.returns
 unfolding bound_of flow_of
-returns c =     let rows = c.args.flow in
+returns c = let rows = c.args.flow in
     let number = c.pattern_count-patterns.ensures.0 ∙ ap (λ w. capped_cells (patterns_of rows.variables w)) (width_is (goal.at.returns c).After-width-w) in
     let instructions = rows-count rows c.instruction_count-places.result c.instruction_count-places.ensures.0 in
     c.answer_for.ensures

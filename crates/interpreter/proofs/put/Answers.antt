@@ -25,9 +25,13 @@ room : (t : Then-is_put) → let a = t.args in (a.puts < length a.numbers.now) �
 room t = t.requires.puts_in_bounds (puts-it t)
 
 pub returns-then-is_put : goal.returns-then-is_put
-returns-then-is_put c = let e = puts-it (goal.at.returns-then-is_put c).Then-is_put in let a = c.args in record { value = rw e refl; numbers_after = rw e (ap (λ (n : ℕ). set a.numbers.now a.puts n) c.count-tape.ensures); values_after = rw e
-        (ap (λ (y : ℤ). set a.values.now a.puts y)
-        (to_z-of_z {w = w32} (sfits_of c.value-y.type-inv) ∙ c.value-y.ensures ∙ ap (λ (u : ℕ). get_or a.variables.now (u - 1) (pos 0)) c.count.ensures)) }
+returns-then-is_put c = let e = puts-it (goal.at.returns-then-is_put c).Then-is_put in let a = c.args in record {
+  value = rw e refl;
+  numbers_after = rw e (ap (λ (n : ℕ). set a.numbers.now a.puts n) c.count-tape.ensures);
+  values_after = rw e
+      (ap (λ (y : ℤ). set a.values.now a.puts y)
+      (to_z-of_z {w = w32} (sfits_of c.value-y.type_inv) ∙ c.value-y.ensures ∙ ap (λ (u : ℕ). get_or a.variables.now (u - 1) (pos 0)) c.count.ensures));
+}
 
 pub returns : goal.returns
 returns c = let e = sym c.is_put.ensures ∙ c.if-is_put.false in record { value = rw e refl; numbers_after = rw e refl; values_after = rw e refl }

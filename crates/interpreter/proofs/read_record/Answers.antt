@@ -6,13 +6,13 @@ use native.Mathlib.Omega.{arith}
 use borrow.Author.Rules.{sfits_of}
 use mir.Syntax.{w32}
 use mir.Facts.{to_z-of_z}
-use lib.ListN.{get_or, set}
+use lib.ListN.{length, get_or, set}
 use lib.IntN.{ℤ}
 use Rattle.flow.specs.declared.Instruction.{Instruction as Row}
 use Rattle.flow.specs.declared.Kind.TheVariants.{Read}
 use Rattle.interpreter.proofs.ArrayLaws.{fits_kind, read_none, read_some}
 use Rattle.interpreter.specs.Inner.Arrays.{RowFits, count_at}
-use Rattle.interpreter.proofs.read_record.Goals.{After-count-i, Start}
+use Rattle.interpreter.proofs.read_record.Goals.{After-count-i, Else-ends-i, Start}
 use Rattle.interpreter.proofs.read_record.Goals as goal
 
 -- the tape, the variable and the targets of the read
@@ -25,7 +25,7 @@ named a = names a.args.x a.requires.kind_value a.requires.row_fits
 
 -- the tape, as the code counts it
 taped : (c : After-count-i) → (1 ≤ c.count-i.result) × (c.count-i.result ≤ 3)
-taped c = omega (arith, c.count-i.ensures, named c.before)
+taped c = omega (arith, c.count-i.ensures, names c.args.x c.requires.kind_value c.requires.row_fits)
 
 pub overflow_sub-i : goal.overflow_sub-i
 overflow_sub-i c = (taped (goal.at.overflow_sub-i c).After-count-i).0
@@ -34,37 +34,35 @@ pub overflow_sub-j : goal.overflow_sub-j
 overflow_sub-j c = omega (arith, c.count-j.ensures, named (goal.at.overflow_sub-j c).Start)
 
 -- a record is left
-module _ (c : tie.Else1) where
-  abbrev counted : tie.After-count
-  counted = (fields c.before).before
+inside : (c : Else-ends-i) → let a = c.args in let n = c.count-i.result in get_or a.at.now (n - 1) 0 < get_or a.ends.now (n - 1) 0
+inside c = c.if-ends-i.false
 
-  abbrev it : tie.Start
-  it = counted.before
-
-  inside : get_or it.args.at.now (counted.count.result - 1) 0 < get_or it.args.ends.now (counted.count.result - 1) 0
-  inside = c.if1.false
+in_row : (c : Else-ends-i) → get_or c.args.at.now (c.count-i.result - 1) 0 < length c.args.records.now
+in_row c = omega (arith, c.requires.placed.within (c.count-i.result - 1), inside c)
 
 pub returns-then-ends-i : goal.returns-then-ends-i
-returns-then-ends-i c =  read_none c.args.x _ _ _ _ c.requires.kind_value c.requires.placed (omega (arith, named (goal.at.returns-then-ends-i c).Start))
+returns-then-ends-i c = read_none c.args.x _ _ _ _ c.requires.kind_value c.requires.placed (omega (arith, named (goal.at.returns-then-ends-i c).Start))
     (subst (λ (n : ℕ). get_or c.args.ends.now (n - 1) 0 ≤ get_or c.args.at.now (n - 1) 0) c.count-i.ensures c.if-ends-i.true)
     c.either.ensures
 
 pub overflow_add-at : goal.overflow_add-at
-overflow_add-at c = omega (arith, (it c).requires.1.1.within ((counted c).count.result - 1), inside c)
+overflow_add-at c = omega (arith, in_row (goal.at.overflow_add-at c).Else-ends-i)
 
 pub offset_bounds-records-k : goal.offset_bounds-records-k
-offset_bounds-records-k c = omega (arith, (it c).requires.1.1.within ((counted c).count.result - 1), inside c)
+offset_bounds-records-k c = omega (arith, in_row (goal.at.offset_bounds-records-k c).Else-ends-i)
 
 pub bounds-records-k : goal.bounds-records-k
-bounds-records-k c = omega (arith, (it c).requires.1.1.within ((counted c).count.result - 1), inside c)
+bounds-records-k c = omega (arith, in_row (goal.at.bounds-records-k c).Else-ends-i)
 
 pub returns : goal.returns
-returns c =  let k = counted (goal.at.returns c).Else-ends-i in let a = k.before in let n = k.count.result in
-    read_some a.args.x _ _ _ _ a.pre.0 a.pre.1.1 (omega (arith, named a))
-    (get_or a.args.at.now (n - 1) 0) (ap (λ (i : ℕ). get_or a.args.at.now (i - 1) 0) k.count.ensures)
-    (subst (λ (i : ℕ). get_or a.args.at.now (n - 1) 0 < get_or a.args.ends.now (i - 1) 0) k.count.ensures (inside (goal.at.returns c).Else-ends-i))
-    (ap₂ (λ (i : ℕ) ((goal.at.returns c).After-y-1 : ℤ). set a.args.variables.now (i - 1) (goal.at.returns c).After-y-1) c.count-j.ensures (to_z-of_z {w = w32} (sfits_of c.y-1.given)))
-    (ap (λ (i : ℕ). set a.args.at.now (i - 1) (get_or a.args.at.now (n - 1) 0 + 1)) k.count.ensures)
+returns c =
+    let a = c.args in
+    let n = c.count-i.result in
+    read_some a.x _ _ _ _ c.requires.kind_value c.requires.placed (omega (arith, named (goal.at.returns c).Start))
+    (get_or a.at.now (n - 1) 0) (ap (λ (i : ℕ). get_or a.at.now (i - 1) 0) c.count-i.ensures)
+    (subst (λ (i : ℕ). get_or a.at.now (n - 1) 0 < get_or a.ends.now (i - 1) 0) c.count-i.ensures (inside (goal.at.returns c).Else-ends-i))
+    (ap₂ (λ (i : ℕ) (y : ℤ). set a.variables.now (i - 1) y) c.count-j.ensures (to_z-of_z {w = w32} (sfits_of c.y-1.given)))
+    (ap (λ (i : ℕ). set a.at.now (i - 1) (get_or a.at.now (n - 1) 0 + 1)) c.count-i.ensures)
     c.either-2.ensures
 
 pub count-i-requires : goal.count-i-requires
@@ -89,16 +87,16 @@ pub either-requires : goal.either-requires
 either-requires c = (named (goal.at.either-requires c).Start).2
 
 pub offset_bounds-at-i-2 : goal.offset_bounds-at-i-2
-offset_bounds-at-i-2 c = omega (arith, taped (counted c))
+offset_bounds-at-i-2 c = omega (arith, taped (goal.at.offset_bounds-at-i-2 c).After-count-i)
 
 pub bounds-at-i-2 : goal.bounds-at-i-2
-bounds-at-i-2 c = omega (arith, taped (counted c))
+bounds-at-i-2 c = omega (arith, taped (goal.at.bounds-at-i-2 c).After-count-i)
 
 pub offset_bounds-variables-j : goal.offset_bounds-variables-j
-offset_bounds-variables-j c = omega (arith, c.count-j.ensures, named (it (goal.at.offset_bounds-variables-j c).Else-ends-i))
+offset_bounds-variables-j c = omega (arith, c.count-j.ensures, named (goal.at.offset_bounds-variables-j c).Start)
 
 pub bounds-variables-j : goal.bounds-variables-j
-bounds-variables-j c = omega (arith, c.count-j.ensures, named (it (goal.at.bounds-variables-j c).Else-ends-i))
+bounds-variables-j c = omega (arith, c.count-j.ensures, named (goal.at.bounds-variables-j c).Start)
 
 pub either-requires-2 : goal.either-requires-2
-either-requires-2 c = (named (it (goal.at.either-requires-2 c).Else-ends-i)).2
+either-requires-2 c = (named (goal.at.either-requires-2 c).Start).2

@@ -24,18 +24,18 @@ past = row Read []
 
 -- the next instruction, and what the three tests before a step have shown
 abbrev coming : At-loop-flow → Row
-coming l = get_or l.args.t1.instructions (l.loop-flow.next - 1) past
+coming l = get_or l.args.flow.instructions (l.loop-flow.next - 1) past
 
 goes : (c : Else-is_stop) → stops (coming c.before.before.before).kind ≡ false
 goes c = sym c.is_stop.ensures ∙ c.if-is_stop.false
 
-more : (c : Else-steps-limit) →  c.loop-flow.steps < c.args.limit
+more : (c : Else-steps-limit) → c.loop-flow.steps < c.args.limit
 more c = strictly _ _ c.loop-flow.invariant.within c.if-steps-limit.false
   where
     strictly : (n k : ℕ) → n ≤ k → (n ≡ k → ⊥) → n < k
     strictly n k h e = omega arith
 
-free : (c : Else-is_full) →  outputs (coming c.before.before.before.before.before.before).kind && leb c.args.cells c.loop-flow.puts ≡ false
+free : (c : Else-is_full) → outputs (coming c.before.before.before.before.before.before).kind && leb c.args.cells c.loop-flow.puts ≡ false
 free c = sym c.is_full.ensures ∙ c.if-is_full.false
 
 -- the rows keep their lengths
@@ -44,23 +44,23 @@ kept l = rows-kept _ _ _ _ _ _ _ _ l.requires.legal l.requires.cells_in_bounds _
 
 -- the row of the next instruction names tapes and variables that there are
 fits : (l : At-loop-flow) → RowFits (coming l)
-fits l = row_fits l.args.t1 l.loop-flow.next l.loop-flow.invariant.shows.named past l.requires.legal
+fits l = row_fits l.args.flow l.loop-flow.next l.loop-flow.invariant.shows.named past l.requires.legal
 
 -- ---- the needs
 pub loop-flow-init : goal.loop-flow-init
-loop-flow-init c =  running_start _ _ _ _ _ _ _ _ c.requires.legal c.requires.placed
+loop-flow-init c = running_start _ _ _ _ _ _ _ _ c.requires.legal c.requires.placed
 
 pub put-puts-requires : goal.put-puts-requires
-put-puts-requires c =  record { row_fits = fits (goal.at.put-puts-requires c).At-loop-flow; puts_in_bounds = cell_free _ _ _ _ _ _ _ _ c.requires.legal c.requires.cells_in_bounds _ _ c.loop-flow.invariant past (free (goal.at.put-puts-requires c).Else-is_full) }
+put-puts-requires c = record { row_fits = fits (goal.at.put-puts-requires c).At-loop-flow; puts_in_bounds = cell_free _ _ _ _ _ _ _ _ c.requires.legal c.requires.cells_in_bounds _ _ c.loop-flow.invariant past (free (goal.at.put-puts-requires c).Else-is_full) }
 
 pub step-went-requires : goal.step-went-requires
-step-went-requires c =  record { kind_value = goes (goal.at.step-went-requires c).Else-is_stop; row_fits = fits (goal.at.step-went-requires c).At-loop-flow; placed = c.loop-flow.invariant.shows.placed }
+step-went-requires c = record { kind_value = goes (goal.at.step-went-requires c).Else-is_stop; row_fits = fits (goal.at.step-went-requires c).At-loop-flow; placed = c.loop-flow.invariant.shows.placed }
 
 pub count-requires : goal.count-requires
-count-requires c =  record { le_i = omega (arith, c.loop-flow.invariant.shows.named, c.requires.legal.size); i_bound = counts-below _ _ _ _ _ _ _ _ c.requires.legal c.requires.cells_in_bounds _ _ c.loop-flow.invariant past (more (goal.at.count-requires c).Else-steps-limit) c.requires.limit_le_max_steps }
+count-requires c = record { le_i = omega (arith, c.loop-flow.invariant.shows.named, c.requires.legal.size); i_bound = counts-below _ _ _ _ _ _ _ _ c.requires.legal c.requires.cells_in_bounds _ _ c.loop-flow.invariant past (more (goal.at.count-requires c).Else-steps-limit) c.requires.limit_le_max_steps }
 
 pub overflow_add-steps : goal.overflow_add-steps
-overflow_add-steps c =  omega (arith, more (goal.at.overflow_add-steps c).Else-steps-limit, c.requires.limit_le_max_steps)
+overflow_add-steps c = omega (arith, more (goal.at.overflow_add-steps c).Else-steps-limit, c.requires.limit_le_max_steps)
 
 pub loop-flow-smaller : goal.loop-flow-smaller
 loop-flow-smaller c = less _ _ (more (goal.at.loop-flow-smaller c).Else-steps-limit)
@@ -69,7 +69,7 @@ loop-flow-smaller c = less _ _ (more (goal.at.loop-flow-smaller c).Else-steps-li
     less n k h = omega arith
 
 pub loop-flow-preserved : goal.loop-flow-preserved
-loop-flow-preserved c =  running_on _ _ _ _ _ _ _ _ c.requires.legal c.requires.cells_in_bounds _ _ c.loop-flow.invariant past (more (goal.at.loop-flow-preserved c).Else-steps-limit) (goes (goal.at.loop-flow-preserved c).Else-is_stop) (free (goal.at.loop-flow-preserved c).Else-is_full)
+loop-flow-preserved c = running_on _ _ _ _ _ _ _ _ c.requires.legal c.requires.cells_in_bounds _ _ c.loop-flow.invariant past (more (goal.at.loop-flow-preserved c).Else-steps-limit) (goes (goal.at.loop-flow-preserved c).Else-is_stop) (free (goal.at.loop-flow-preserved c).Else-is_full)
     (record {
       puts = c.put-puts.ensures.value;
       numbers = c.put-puts.ensures.numbers_after;
@@ -81,14 +81,20 @@ loop-flow-preserved c =  running_on _ _ _ _ _ _ _ _ c.requires.legal c.requires.
     })
 
 pub returns-then-is_stop : goal.returns-then-is_stop
-returns-then-is_stop c =  ends_stopped _ _ _ _ _ _ _ _ c.requires.legal c.requires.cells_in_bounds _ _ c.loop-flow.invariant past (sym c.is_stop.ensures ∙ c.if-is_stop.true)
+returns-then-is_stop c =
+    let a = ends_stopped _ _ _ _ _ _ _ _ c.requires.legal c.requires.cells_in_bounds _ _ c.loop-flow.invariant past (sym c.is_stop.ensures ∙ c.if-is_stop.true) in
+    record { value = a.0; numbers_after = a.1.0; values_after = a.1.1 }
 
 pub returns-then-steps-limit : goal.returns-then-steps-limit
-returns-then-steps-limit c =  ends_spent _ _ _ _ _ _ _ _ c.requires.legal c.requires.cells_in_bounds _ _ c.loop-flow.invariant past (goes (goal.at.returns-then-steps-limit c).Else-is_stop) c.if-steps-limit.true
+returns-then-steps-limit c =
+    let a = ends_spent _ _ _ _ _ _ _ _ c.requires.legal c.requires.cells_in_bounds _ _ c.loop-flow.invariant past (goes (goal.at.returns-then-steps-limit c).Else-is_stop) c.if-steps-limit.true in
+    record { value = a.0; numbers_after = a.1.0; values_after = a.1.1 }
 
 pub returns-then-is_full : goal.returns-then-is_full
-returns-then-is_full c =  ends-full _ _ _ _ _ _ _ _ c.requires.legal c.requires.cells_in_bounds _ _ c.loop-flow.invariant past (goes (goal.at.returns-then-is_full c).Else-is_stop) (more (goal.at.returns-then-is_full c).Else-steps-limit)
-    (sym c.is_full.ensures ∙ c.if-is_full.true)
+returns-then-is_full c =
+    let a = ends-full _ _ _ _ _ _ _ _ c.requires.legal c.requires.cells_in_bounds _ _ c.loop-flow.invariant past (goes (goal.at.returns-then-is_full c).Else-is_stop) (more (goal.at.returns-then-is_full c).Else-steps-limit)
+    (sym c.is_full.ensures ∙ c.if-is_full.true) in
+    record { value = a.0; numbers_after = a.1.0; values_after = a.1.1 }
 
 pub overflow_sub-i : goal.overflow_sub-i
 overflow_sub-i c = c.loop-flow.invariant.shows.named.0

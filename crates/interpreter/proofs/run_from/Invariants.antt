@@ -7,7 +7,7 @@ use Rattle.interpreter.proofs.run_from.Given as goal
 abbrev pub invariant-loop-flow : goal.invariant-loop-flow
 invariant-loop-flow l =
     Running l.flow l.limit l.cells l.records l.initial.at l.ends l.initial.numbers l.initial.values l.steps
-    (record { l.next = l.next; l.variables = l.variables; l.at = l.at; l.puts = l.puts; l.numbers = l.numbers; l.values = l.values; l.p = l.p; l.m = l.m })
+    (record { next = l.next; variables = l.variables; at = l.at; puts = l.puts; numbers = l.numbers; values = l.values; p = l.p; m = l.m })
 
 abbrev pub decreases-loop-flow : goal.decreases-loop-flow
 decreases-loop-flow l =
