@@ -90,7 +90,8 @@ fn instruction_count(instructions: [Instruction; Flow::MAX_INSTRUCTIONS], count:
 fn answer_for(n: u64) -> BoundAnswer
     ensures { result ≡ bound_answer n }
 {
-    if MOST < n {
+    let over = MOST < n;
+    if over {
         return BoundAnswer::Over;
     }
     BoundAnswer::AtMost(n as usize)

@@ -307,7 +307,8 @@ fn run_from(
         if is_stop(kind) {
             break RunEnd::Stopped;
         }
-        if steps == limit {
+        let spent = steps == limit;
+        if spent {
             break RunEnd::Spent;
         }
         if is_full(kind, puts, cells) {

@@ -5,9 +5,9 @@ use Rattle.cells.specs.Cells.{most_cells}
 use Rattle.flow_bound.specs.Bound.{bound_answer}
 use Rattle.flow_bound.proofs.answer_for.Goals as goal
 
-pub returns-then-n-gt-MOST : goal.returns-then-n-gt-MOST
+pub returns-then-over : goal.returns-then-over
 unfolding bound_answer
-returns-then-n-gt-MOST c = rw (lt-ltb most_cells c.args.n (search rules))
+returns-then-over c = rw (lt-ltb most_cells c.args.n (search rules))
 
 pub returns : goal.returns
 unfolding bound_answer

@@ -14,7 +14,7 @@ use Rattle.interpreter.proofs.RowLaws.{row_fits}
 use Rattle.interpreter.proofs.RunLaws.{rows-kept, cell_free}
 use Rattle.interpreter.proofs.RunLaws.{running_start, running_on, counts-below, ends_stopped, ends_spent, ends-full}
 use Rattle.interpreter.specs.Inner.Arrays.{RowFits, stops, outputs}
-use Rattle.interpreter.proofs.run_from.Goals.{At-loop-flow, Else-is_full, Else-is_stop, Else-steps-limit}
+use Rattle.interpreter.proofs.run_from.Goals.{At-loop-flow, Else-is_full, Else-is_stop, Else-spent}
 use Rattle.interpreter.proofs.run_from.Goals as goal
 
 -- ---- what is known there
@@ -29,8 +29,8 @@ coming l = get_or l.args.flow.instructions (l.loop-flow.next - 1) past
 goes : (c : Else-is_stop) → stops (coming c.before.before.before).kind ≡ false
 goes c = sym c.is_stop.ensures ∙ c.if-is_stop.false
 
-more : (c : Else-steps-limit) → c.loop-flow.steps < c.args.limit
-more c = strictly _ _ c.loop-flow.invariant.within c.if-steps-limit.false
+more : (c : Else-spent) → c.loop-flow.steps < c.args.limit
+more c = strictly _ _ c.loop-flow.invariant.within c.if-spent.false
   where
     strictly : (n k : ℕ) → n ≤ k → (n ≡ k → ⊥) → n < k
     strictly n k h e = omega arith
@@ -57,19 +57,19 @@ pub step-went-requires : goal.step-went-requires
 step-went-requires c = record { kind_value = goes (goal.at.step-went-requires c).Else-is_stop; row_fits = fits (goal.at.step-went-requires c).At-loop-flow; placed = c.loop-flow.invariant.shows.placed }
 
 pub count-requires : goal.count-requires
-count-requires c = record { le_i = omega (arith, c.loop-flow.invariant.shows.named, c.requires.legal.size); i_bound = counts-below _ _ _ _ _ _ _ _ c.requires.legal c.requires.cells_in_bounds _ _ c.loop-flow.invariant past (more (goal.at.count-requires c).Else-steps-limit) c.requires.limit_le_max_steps }
+count-requires c = record { le_i = omega (arith, c.loop-flow.invariant.shows.named, c.requires.legal.size); i_bound = counts-below _ _ _ _ _ _ _ _ c.requires.legal c.requires.cells_in_bounds _ _ c.loop-flow.invariant past (more (goal.at.count-requires c).Else-spent) c.requires.limit_le_max_steps }
 
 pub overflow_add-steps : goal.overflow_add-steps
-overflow_add-steps c = omega (arith, more (goal.at.overflow_add-steps c).Else-steps-limit, c.requires.limit_le_max_steps)
+overflow_add-steps c = omega (arith, more (goal.at.overflow_add-steps c).Else-spent, c.requires.limit_le_max_steps)
 
 pub loop-flow-smaller : goal.loop-flow-smaller
-loop-flow-smaller c = less _ _ (more (goal.at.loop-flow-smaller c).Else-steps-limit)
+loop-flow-smaller c = less _ _ (more (goal.at.loop-flow-smaller c).Else-spent)
   where
     less : (n k : ℕ) → n < k → k - (n + 1) < k - n
     less n k h = omega arith
 
 pub loop-flow-preserved : goal.loop-flow-preserved
-loop-flow-preserved c = running_on _ _ _ _ _ _ _ _ c.requires.legal c.requires.cells_in_bounds _ _ c.loop-flow.invariant past (more (goal.at.loop-flow-preserved c).Else-steps-limit) (goes (goal.at.loop-flow-preserved c).Else-is_stop) (free (goal.at.loop-flow-preserved c).Else-is_full)
+loop-flow-preserved c = running_on _ _ _ _ _ _ _ _ c.requires.legal c.requires.cells_in_bounds _ _ c.loop-flow.invariant past (more (goal.at.loop-flow-preserved c).Else-spent) (goes (goal.at.loop-flow-preserved c).Else-is_stop) (free (goal.at.loop-flow-preserved c).Else-is_full)
     (record {
       puts = c.put-puts.ensures.value;
       numbers = c.put-puts.ensures.numbers_after;
@@ -85,14 +85,14 @@ returns-then-is_stop c =
     let a = ends_stopped _ _ _ _ _ _ _ _ c.requires.legal c.requires.cells_in_bounds _ _ c.loop-flow.invariant past (sym c.is_stop.ensures ∙ c.if-is_stop.true) in
     record { value = a.0; numbers_after = a.1.0; values_after = a.1.1 }
 
-pub returns-then-steps-limit : goal.returns-then-steps-limit
-returns-then-steps-limit c =
-    let a = ends_spent _ _ _ _ _ _ _ _ c.requires.legal c.requires.cells_in_bounds _ _ c.loop-flow.invariant past (goes (goal.at.returns-then-steps-limit c).Else-is_stop) c.if-steps-limit.true in
+pub returns-then-spent : goal.returns-then-spent
+returns-then-spent c =
+    let a = ends_spent _ _ _ _ _ _ _ _ c.requires.legal c.requires.cells_in_bounds _ _ c.loop-flow.invariant past (goes (goal.at.returns-then-spent c).Else-is_stop) c.if-spent.true in
     record { value = a.0; numbers_after = a.1.0; values_after = a.1.1 }
 
 pub returns-then-is_full : goal.returns-then-is_full
 returns-then-is_full c =
-    let a = ends-full _ _ _ _ _ _ _ _ c.requires.legal c.requires.cells_in_bounds _ _ c.loop-flow.invariant past (goes (goal.at.returns-then-is_full c).Else-is_stop) (more (goal.at.returns-then-is_full c).Else-steps-limit)
+    let a = ends-full _ _ _ _ _ _ _ _ c.requires.legal c.requires.cells_in_bounds _ _ c.loop-flow.invariant past (goes (goal.at.returns-then-is_full c).Else-is_stop) (more (goal.at.returns-then-is_full c).Else-spent)
     (sym c.is_full.ensures ∙ c.if-is_full.true) in
     record { value = a.0; numbers_after = a.1.0; values_after = a.1.1 }
 
@@ -111,11 +111,11 @@ shape_of-numbers-then-is_stop c = (kept (goal.at.shape_of-numbers-then-is_stop c
 pub shape_of-values-then-is_stop : goal.shape_of-values-then-is_stop
 shape_of-values-then-is_stop c = (kept (goal.at.shape_of-values-then-is_stop c).At-loop-flow).1
 
-pub shape_of-numbers-then-steps-limit : goal.shape_of-numbers-then-steps-limit
-shape_of-numbers-then-steps-limit c = (kept (goal.at.shape_of-numbers-then-steps-limit c).At-loop-flow).0
+pub shape_of-numbers-then-spent : goal.shape_of-numbers-then-spent
+shape_of-numbers-then-spent c = (kept (goal.at.shape_of-numbers-then-spent c).At-loop-flow).0
 
-pub shape_of-values-then-steps-limit : goal.shape_of-values-then-steps-limit
-shape_of-values-then-steps-limit c = (kept (goal.at.shape_of-values-then-steps-limit c).At-loop-flow).1
+pub shape_of-values-then-spent : goal.shape_of-values-then-spent
+shape_of-values-then-spent c = (kept (goal.at.shape_of-values-then-spent c).At-loop-flow).1
 
 pub shape_of-numbers-then-is_full : goal.shape_of-numbers-then-is_full
 shape_of-numbers-then-is_full c = (kept (goal.at.shape_of-numbers-then-is_full c).At-loop-flow).0
