@@ -97,7 +97,8 @@ pub fn in_bounds(x: i64) -> i32
     if x < -100000 {
         return -100000;
     }
-    if 100000 < x {
+    let past = 100000 < x;
+    if past {
         return 100000;
     }
     x as i32

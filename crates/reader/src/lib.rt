@@ -21,7 +21,8 @@ use lines::Targets;
 pub fn read(text: &[u8]) -> Reading
     ensures { result ≡ reading_of (read_flow text.now) }
 {
-    if text.len() == 0 {
+    let empty = text.len() == 0;
+    if empty {
         return Reading {
             answer: Answer::Legal,
             flow: Flow::only_stop(),
@@ -35,7 +36,8 @@ fn read_bytes(text: &[u8]) -> Reading
     requires { 1 ≤ length text.now }
     ensures { result ≡ reading_of (read_bytes text.now) }
 {
-    if Flow::MAX_BYTES < text.len() {
+    let long = Flow::MAX_BYTES < text.len();
+    if long {
         return refused(Refusal::TooLong);
     }
     if text[text.len() - 1] != 10 {

@@ -7,9 +7,9 @@ use Rattle.flow.specs.declared.Answer.TheVariants.{Legal}
 use Rattle.flow.proofs.ReadLaws.{no_bytes, some_bytes}
 use Rattle.reader.proofs.read.Goals as goal
 
-pub returns-then-text-eq0 : goal.returns-then-text-eq0
+pub returns-then-empty : goal.returns-then-empty
 unfolding reading_of
-returns-then-text-eq0 c = ap (λ (f : Flow). record { answer = Legal; flow = f }) c.only_stop.ensures
+returns-then-empty c = ap (λ (f : Flow). record { answer = Legal; flow = f }) c.only_stop.ensures
     ∙ sym (ap reading_of (no_bytes c.args.text.now (omega arith)))
 
 pub returns : goal.returns

@@ -7,8 +7,8 @@ use Rattle.flow.proofs.HeadLaws.{head-read_fits}
 use Rattle.reader.proofs.FlowLaws.{text-long, text_unended, line_ends, text_rest, text-fault}
 use Rattle.reader.proofs.read_bytes.Goals as goal
 
-pub returns-then-text-gt-MAX_BYTES : goal.returns-then-text-gt-MAX_BYTES
-returns-then-text-gt-MAX_BYTES c = c.refused.ensures ∙ text-long c.args.text.now (omega arith)
+pub returns-then-long : goal.returns-then-long
+returns-then-long c = c.refused.ensures ∙ text-long c.args.text.now (omega arith)
 
 pub returns-then-text-ne10 : goal.returns-then-text-ne10
 returns-then-text-ne10 c = c.refused-then-text-ne10.ensures

@@ -11,21 +11,21 @@ returns-then-x-ltminus100000 c = let z = c.args.x in
     let f = c.ranges.x in
     rw (rw (read_back z f) at c.if-x-ltminus100000.true)
 
-pub returns-then-x-gt100000 : goal.returns-then-x-gt100000
+pub returns-then-past : goal.returns-then-past
 unfolding bounded
-returns-then-x-gt100000 c = let z = c.args.x in
+returns-then-past c = let z = c.args.x in
     let f = c.ranges.x in
-    rw (rw (read_back z f) at c.if-x-ltminus100000.false, rw (read_back z f) at c.if-x-gt100000.true)
+    rw (rw (read_back z f) at c.if-x-ltminus100000.false, rw (read_back z f) at c.if-past.true)
 
 pub overflow_cast-result : goal.overflow_cast-result
 overflow_cast-result c = let z = c.args.x in
     let f = c.ranges.x in
-    rw (read_back z f) (bounded_fits z (rw (read_back z f) at c.if-x-ltminus100000.false) (rw (read_back z f) at c.if-x-gt100000.false))
+    rw (read_back z f) (bounded_fits z (rw (read_back z f) at c.if-x-ltminus100000.false) (rw (read_back z f) at c.if-past.false))
 
 pub returns : goal.returns
 unfolding bounded
 returns c = let z = c.args.x in
     let f = c.ranges.x in
     let h = rw (read_back z f) at c.if-x-ltminus100000.false in
-    let k = rw (read_back z f) at c.if-x-gt100000.false in
+    let k = rw (read_back z f) at c.if-past.false in
     rw (read_back z f) (to_z-of_z (bounded_fits z h k) ∙ rw (h, k))
