@@ -12,7 +12,7 @@ pub returns-in-Read : goal.returns-in-Read
 returns-in-Read c = quiet_same _ _ _ _ c.in-Read.is refl
 
 pub returns-in-Assign : goal.returns-in-Assign
-returns-in-Assign c =     let e = to_z-of_z {w = w32} (sfits_of c.term-x.type-inv) ∙ c.term-x.ensures
+returns-in-Assign c = let e = to_z-of_z {w = w32} (sfits_of c.term-x.type_inv) ∙ c.term-x.ensures
     ∙ ap (λ (z : ℤ). term_in z c.args.op c.args.walk.values c.args.op.left) (to_z-of_z c.ranges.lo) in
     quiet_assign c.args.lo c.args.op c.args.walk c.in-Assign.is e
 

@@ -15,5 +15,5 @@ pub overflow_add-result : goal.overflow_add-result
 overflow_add-result c = numbers.wish_fits c.args.lo c.requires.low c.args.y c.requires.y_bound c.ranges.lo
 
 pub returns : goal.returns
-returns c =     to_z-of_z (numbers.wish_fits c.args.lo c.requires.low c.args.y c.requires.y_bound c.ranges.lo)
+returns c = to_z-of_z (numbers.wish_fits c.args.lo c.requires.low c.args.y c.requires.y_bound c.ranges.lo)
     ∙ numbers.wish_sum c.args.lo c.requires.low c.args.y c.requires.y_bound c.ranges.lo

@@ -16,34 +16,34 @@ far-is c = c.wide-d.ensures ∙ c.get.ensures
 
 -- ---- the needs
 pub get-requires : goal.get-requires
-get-requires c =     let l = nearest_below c.requires.by_index.2 c.args.exit c.args.k c.requires.by_index.3 in
+get-requires c = let l = nearest_below c.requires.by_index.2 c.args.exit c.args.k c.requires.by_index.3 in
     (omega (arith, l, c.requires.by_index.2.walkable.distance_room, length-column distance_field c.args.cells.now), omega arith)
 
 pub depth-steps-requires : goal.depth-steps-requires
-depth-steps-requires c =     let t = c.requires.by_index.2 in
+depth-steps-requires c = let t = c.requires.by_index.2 in
     record { parents = t.parents; at_lt_n = nearest_below t c.args.exit c.args.k c.requires.by_index.3 }
 
 pub returns-then-row-d : goal.returns-then-row-d
 returns-then-row-d c = λ flow i t h.
-    short_picked t c.args.exit c.args.k h (far-is (goal.at.returns-then-row-d c).After-wide-d) c.args.tapes c.args.row.now _ (omega arith) c.without.ensures
+    short_picked t c.args.exit c.args.k h (c.wide-d.ensures ∙ c.get.ensures) c.args.tapes c.args.row.now _ (omega arith) c.without.ensures
 
 pub trace-requires : goal.trace-requires
-trace-requires c =     let t = c.requires.by_index.2 in
+trace-requires c = let t = c.requires.by_index.2 in
     record { parents = t.parents; at_lt_n = nearest_below t c.args.exit c.args.k c.requires.by_index.3; depth = c.depth-steps.ensures }
 
 pub write_sample-lengths-requires : goal.write_sample-lengths-requires
-write_sample-lengths-requires c =     let a = c.args in
+write_sample-lengths-requires c = let a = c.args in
     let only = c.trace.ensures.only in
     let t = tabled_after _ _ only (tabled_at c.requires.by_index.2 (to_z-of_z c.ranges.lo) (to_z-of_z c.ranges.hi)) in
     let h = nearest_after _ _ only a.w a.n a.ops c.requires.by_index.1 a.exit a.k c.requires.by_index.3 in
     let far = far_after _ _ only a.k (far-is (goal.at.write_sample-lengths-requires c).After-wide-d) in
-    let long = way_long _ _ only c.trace.auto.0 in
+    let long = way_long _ _ only c.trace.auto.cells in
     let deep = depth_after _ _ only _ _ c.depth-steps.ensures in
     let traced = traced_after _ _ only _ _ _ _ c.trace.ensures.traced in record { table = c.requires.table; course_leads = (c.requires.by_index.0, way_leads t a.exit a.k h far long deep traced, way_ends_there t a.exit a.k h far long deep traced); steps_in_bounds = omega (arith, way_exits t a.exit a.k h far long deep traced) }
 
 -- the distance and the steps are both within the index
 pub overflow_add-distance : goal.overflow_add-distance
-overflow_add-distance c =     let t = c.requires.by_index.2 in
+overflow_add-distance c = let t = c.requires.by_index.2 in
     let l = nearest_below t c.args.exit c.args.k c.requires.by_index.3 in
     let far = far-is (goal.at.overflow_add-distance c).After-wide-d in
     let near = t.walkable.near c.args.k l in
@@ -58,7 +58,7 @@ returns c = λ flow i g h.
     let t = tabled_after _ _ only (tabled_at g (to_z-of_z c.ranges.lo) (to_z-of_z c.ranges.hi)) in
     let h₁ = nearest_after _ _ only a.w a.n a.ops i a.exit a.k h in
     let far = far_after _ _ only a.k (far-is (goal.at.returns c).After-wide-d) in
-    let long = way_long _ _ only c.trace.auto.0 in
+    let long = way_long _ _ only c.trace.auto.cells in
     let deep = depth_after _ _ only _ _ c.depth-steps.ensures in
     let traced = traced_after _ _ only _ _ _ _ c.trace.ensures.traced in
     taken_picked t a.exit a.k h₁ far long deep traced _

@@ -23,25 +23,28 @@ pub bounds-ops-at : goal.bounds-ops-at
 bounds-ops-at c = let t = c.requires.tabled.1 in let l = tabled_first t in let m = tabled_last t in search rules
 
 pub nearest-found-requires : goal.nearest-found-requires
-nearest-found-requires c =     let t = c.requires.tabled.1 in
+nearest-found-requires c = let t = c.requires.tabled.1 in
     record { table = c.requires.table; width = tabled_wide t; n_in_bounds = omega (arith, t.walkable.place_room, length-word-column place_field c.args.cells.now) }
 
 pub sample_at-requires : goal.sample_at-requires
-sample_at-requires c =     let a = c.args in record { table = c.requires.table; by_index = (
-        c.requires.tabled.0,
-        a.instruction,
-        tabled_at c.requires.tabled.1 (to_z-of_z c.ranges.lo) (to_z-of_z c.ranges.hi),
-        nearest_is a.w (table (goal.at.sample_at-requires c).Start) a.n a.t4 a.instruction a.exit c.in-At.is c.nearest-found.ensures,
-      ) }
+sample_at-requires c = let a = c.args in record {
+  table = c.requires.table;
+  by_index = (
+    c.requires.tabled.0,
+    a.instruction,
+    tabled_at c.requires.tabled.1 (to_z-of_z c.ranges.lo) (to_z-of_z c.ranges.hi),
+    nearest_is a.w (table (goal.at.sample_at-requires c).Start) a.n a.ops a.instruction a.exit c.in-At.is c.nearest-found.ensures,
+  );
+}
 
 pub returns-in-Nothing : goal.returns-in-Nothing
 returns-in-Nothing c = λ flow t.
     let a = c.args in
     nothing_picked t a.exit a.tapes a.row.now _
-    (nearest_is a.w (table (goal.at.returns-in-Nothing c).Start) a.n a.t4 a.instruction a.exit c.in-Nothing.is c.nearest-found.ensures) c.without.ensures
+    (nearest_is a.w (table (goal.at.returns-in-Nothing c).Start) a.n a.ops a.instruction a.exit c.in-Nothing.is c.nearest-found.ensures) c.without.ensures
 
 pub returns-in-At : goal.returns-in-At
 returns-in-At c = λ flow t.
     let a = c.args in
     c.sample_at.ensures flow a.instruction (tabled_at t (to_z-of_z c.ranges.lo) (to_z-of_z c.ranges.hi))
-    (nearest_is a.w (table (goal.at.returns-in-At c).Start) a.n a.t4 a.instruction a.exit c.in-At.is c.nearest-found.ensures)
+    (nearest_is a.w (table (goal.at.returns-in-At c).Start) a.n a.ops a.instruction a.exit c.in-At.is c.nearest-found.ensures)

@@ -6,4 +6,4 @@ use Rattle.search_table.specs.Inner.Table.{words_at}
 use Rattle.sample.proofs.words_on.Goals as goal
 
 pub returns : goal.returns
-returns c =     c.words_at.ensures ∙ ap (words_at (entries_of (columns_of c.args.cells.now))) (c.wide-k.ensures ∙ c.get.ensures)
+returns c = c.words_at.ensures ∙ ap (words_at (entries_of (columns_of c.args.cells.now))) (c.wide-k.ensures ∙ c.get.ensures)

@@ -3,8 +3,6 @@ use mathlib.Core.Path.{◌≡◌}
 use mathlib.Core.List.{List}
 use Prim.Native.Nat.{ℕ, ◌-◌, ◌≤◌}
 use lib.ListN.{length}
-use mir.Syntax.{w32}
-use mir.Val.{to_z}
 use Rattle.model.specs.Language.{Flow}
 use Rattle.sample_row.specs.Inner.Reading.{first_walk}
 use Rattle.sample.specs.Inner.Sampling.{course_in, CourseLeads, Roomy, Following}
@@ -13,9 +11,9 @@ use Rattle.sample.proofs.write_steps.Given as goal
 abbrev pub invariant-loop-t : goal.invariant-loop-t
 invariant-loop-t l =
     (l.t ≤ l.steps) × (length l.row ≡ length l.initial.row)
-    × ((flow : Flow) (sizes : List ℕ) → CourseLeads (course_in l.cells l.steps l.ops l.w (to_z w32 l.lo) (to_z w32 l.hi)) flow
-    → Roomy (course_in l.cells l.steps l.ops l.w (to_z w32 l.lo) (to_z w32 l.hi)) sizes (length l.initial.row) → l.initial.walk ≡ first_walk sizes
-    → Following (course_in l.cells l.steps l.ops l.w (to_z w32 l.lo) (to_z w32 l.hi)) flow sizes l.initial.row l.t l.walk l.row)
+    × ((flow : Flow) (sizes : List ℕ) → CourseLeads (course_in l.cells l.steps l.ops l.w l.lo l.hi) flow
+    → Roomy (course_in l.cells l.steps l.ops l.w l.lo l.hi) sizes (length l.initial.row) → l.initial.walk ≡ first_walk sizes
+    → Following (course_in l.cells l.steps l.ops l.w l.lo l.hi) flow sizes l.initial.row l.t l.walk l.row)
 
 abbrev pub decreases-loop-t : goal.decreases-loop-t
 decreases-loop-t l = l.steps - l.t

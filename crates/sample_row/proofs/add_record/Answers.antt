@@ -11,8 +11,8 @@ use Rattle.sample_row.specs.Inner.Reading.{next_cell}
 use Rattle.sample_row.proofs.add_record.Goals as goal
 
 pub returns : goal.returns
-returns c =     let a = c.args in
-    let x = to_z-of_z {w = w32} (sfits_of c.record_of-x.type-inv) ∙ c.record_of-x.ensures in
+returns c = let a = c.args in
+    let x = to_z-of_z {w = w32} (sfits_of c.record_of-x.type_inv) ∙ c.record_of-x.ensures in
     let values = ap₂ (λ (l : List ℤ) (q : ℤ). set l a.v q) c.moved_values-values.ensures x in
     let counts = ap (set a.walk.counts a.a) (add-one (get_or a.walk.counts a.a 0)) in
     let room = c.make_room.ensures in (

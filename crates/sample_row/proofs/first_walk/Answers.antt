@@ -4,4 +4,4 @@ use Rattle.sample_row.proofs.Sized.{starts_fit}
 use Rattle.sample_row.proofs.first_walk.Goals as goal
 
 pub overflow_add-starts : goal.overflow_add-starts
-overflow_add-starts c = record { fits = omega (arith, starts_fit c.args.t1, c.requires) }
+overflow_add-starts c = record { fits = omega (arith, starts_fit c.args.sizes, c.requires) }

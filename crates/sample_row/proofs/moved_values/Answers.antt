@@ -10,12 +10,12 @@ use Rattle.sample_row.proofs.Arms.{choice_take_map, between-map}
 use Rattle.sample_row.proofs.moved_values.Goals as goal
 
 pub returns-in-Take : goal.returns-in-Take
-returns-in-Take c =     let g = c.enum_told-1.given in
+returns-in-Take c = let g = c.in-Take in
     let a = c.args in
-    choice_take_map a.choice g.0.0 g.1 a.values
+    choice_take_map a.choice g.field-0 g.is a.values
 
 pub returns-in-Between : goal.returns-in-Between
-returns-in-Between c =     let g = c.choice-1.given in
+returns-in-Between c = let g = c.in-Between in
     let a = c.args in
-    c.shift.ensures ∙ ap (λ (q : ℤ). map (moved g.0.0 q) a.values) (to_z-of_z {w = w32} {z = g.0.1.0} (search rules))
-    ∙ between-map a.choice g.0.0 g.0.1.0 g.1 a.values
+    c.shift.ensures ∙ ap (λ (q : ℤ). map (moved g.up q) a.values) (to_z-of_z {w = w32} {z = g.m} (search rules))
+    ∙ between-map a.choice g.up g.m g.is a.values

@@ -12,7 +12,7 @@ use Rattle.sample_row.proofs.ChoiceLaws.{choice_safe}
 use Rattle.sample_row.proofs.read_one.Goals as goal
 
 pub add_record-requires : goal.add_record-requires
-add_record-requires c =     let a = c.args in
+add_record-requires c = let a = c.args in
     let erased = all_set Movable a.walk.values a.v (pos 0) c.requires.0.values (record { low = tt; high = tt }) in
     let e = rw (to_z-of_z c.ranges.lo, to_z-of_z c.ranges.hi) at c.choice_for-choice.ensures in (
       c.requires.0,
@@ -21,7 +21,7 @@ add_record-requires c =     let a = c.args in
     )
 
 pub returns : goal.returns
-returns c =     let a = c.args in
+returns c = let a = c.args in
     let e = rw (to_z-of_z c.ranges.lo, to_z-of_z c.ranges.hi) at c.choice_for-choice.ensures in
     let r = c.add_record.ensures in (
       r.0 ∙ ap (λ (q : Choice). walk_after q a.a a.v a.walk) e,

@@ -14,14 +14,14 @@ inside c =
     omega (arith, span_fits a.lengths.now a.tape (length a.row.now), ap (λ (s : Span). s.start + s.count) c.span_of-span.ensures)
 
 pub overflow_add-e : goal.overflow_add-e
-overflow_add-e c = record { fits = omega (arith, inside (goal.at.overflow_add-e c).After-struct_known-1, c.well-formed.0.1) }
+overflow_add-e c = record { fits = omega (arith, inside (goal.at.overflow_add-e c).After-struct_known-1, c.well_formed.0.1) }
 
 pub offset_bounds-row-s : goal.offset_bounds-row-s
-offset_bounds-row-s c = record { fits = omega (arith, inside (goal.at.offset_bounds-row-s c).After-struct_known-1, c.well-formed.0.1) }
+offset_bounds-row-s c = record { fits = omega (arith, inside (goal.at.offset_bounds-row-s c).After-struct_known-1, c.well_formed.0.1) }
 
 pub slice_bounds-result-end : goal.slice_bounds-result-end
 slice_bounds-result-end c = inside (goal.at.slice_bounds-result-end c).After-struct_known-1
 
 pub returns : goal.returns
-returns c =     let a = c.args in
+returns c = let a = c.args in
     is-part _ a.row.now a.row.ref_ptr (a.row.ref_ptr.0, c.span_of-span.result.start * 4 + a.row.ref_ptr.1) c.span_of-span.result c.span_of-span.ensures refl refl

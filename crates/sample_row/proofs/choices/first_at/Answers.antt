@@ -1,7 +1,6 @@
 -- `sample_row::choices::first_at` meets its contract. The loop's invariant: the first place in the rest is the first place.
 use mathlib.Core.Path.{◌≡◌, refl, sym, ap, ◌∙◌}
 use mathlib.Core.Bool.{true, false}
-use Prim.Native.Nat.{◌-◌}
 use native.Mathlib.Omega.{arith}
 use lib.IntN.{ℤ, pos}
 use lib.ListN.{get_or}
@@ -17,27 +16,27 @@ pub loop-i-init : goal.loop-i-init
 loop-i-init c = (omega arith, search rules, refl)
 
 pub returns-then-same : goal.returns-then-same
-returns-then-same c =     let l = c.loop-i in
+returns-then-same c = let l = c.loop-i in
     let y = to_z w32 (of_z w32 c.args.y) in
-    let x = get_or c.args.t2 l.i (pos 0) in
+    let x = get_or c.args.wish l.i (pos 0) in
     let e : equal x y ≡ true
     = ap (λ (q : ℤ). equal q y) (sym (to_z-of_z {w = w32} {z = x} (sfits_of c.x-1.given))) ∙ sym c.same.ensures
     ∙ c.if-same.true in
-    first-at_found y c.args.t2 l.i (omega arith) e ∙ l.invariant.2 ∙ rw (to_z-of_z c.ranges.y)
+    first-at_found y c.args.wish l.i (omega arith) e ∙ l.invariant.2 ∙ rw (to_z-of_z c.ranges.y)
 
 pub loop-i-preserved : goal.loop-i-preserved
-loop-i-preserved c =     let l = c.loop-i in
+loop-i-preserved c = let l = c.loop-i in
     let y = to_z w32 (of_z w32 c.args.y) in
-    let x = get_or c.args.t2 l.i (pos 0) in
+    let x = get_or c.args.wish l.i (pos 0) in
     let e : equal x y ≡ false
     = ap (λ (q : ℤ). equal q y) (sym (to_z-of_z {w = w32} {z = x} (sfits_of c.x-1.given))) ∙ sym c.same.ensures
     ∙ c.if-same.false in
-    (omega arith, l.invariant.1, first_past y c.args.t2 l.i (omega arith) e ∙ l.invariant.2)
+    (omega arith, l.invariant.1, first_past y c.args.wish l.i (omega arith) e ∙ l.invariant.2)
 
 pub returns : goal.returns
-returns c =     let l = c.loop-i in
+returns c = let l = c.loop-i in
     let n : l.i ≡ 4 = omega arith in
-    sym (first-end (to_z w32 (of_z w32 c.args.y)) c.args.t2 l.i (omega arith) ∙ n) ∙ l.invariant.2 ∙ rw (to_z-of_z c.ranges.y)
+    sym (first-end (to_z w32 (of_z w32 c.args.y)) c.args.wish l.i (omega arith) ∙ n) ∙ l.invariant.2 ∙ rw (to_z-of_z c.ranges.y)
 
 pub same-requires : goal.same-requires
 same-requires c = tt

@@ -2,13 +2,11 @@
 use mathlib.Core.Path.{◌≡◌}
 use Prim.Native.Nat.{◌-◌, ◌≤◌}
 use lib.ListN.{length, drop}
-use mir.Syntax.{w32}
-use mir.Val.{to_z}
 use Rattle.sample_row.specs.Inner.Choices.{first_at}
 use Rattle.sample_row.proofs.choices.first_at.Given as goal
 
 abbrev pub invariant-loop-i : goal.invariant-loop-i
-invariant-loop-i l = (l.i ≤ 4) × (length l.wish ≡ 4) × (first_at l.i (to_z w32 l.y) (drop l.i l.wish) ≡ first_at 0 (to_z w32 l.y) l.wish)
+invariant-loop-i l = (l.i ≤ 4) × (length l.wish ≡ 4) × (first_at l.i l.y (drop l.i l.wish) ≡ first_at 0 l.y l.wish)
 
 abbrev pub decreases-loop-i : goal.decreases-loop-i
 decreases-loop-i l = 4 - l.i

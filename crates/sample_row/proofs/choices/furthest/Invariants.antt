@@ -2,15 +2,13 @@
 use mathlib.Core.Path.{◌≡◌}
 use Prim.Native.Nat.{◌-◌, ◌≤◌}
 use lib.ListN.{length, drop}
-use mir.Syntax.{w32}
-use mir.Val.{to_z}
 use Rattle.sample_row.specs.Inner.Moves.{further}
 use Rattle.model.specs.Inner.Runs.{furthest}
 use Rattle.sample_row.proofs.choices.furthest.Given as goal
 
 abbrev pub invariant-loop-i : goal.invariant-loop-i
 invariant-loop-i l = (l.i ≤ 4) × (length l.wish ≡ 4) × (length l.values ≡ 4)
-    × (furthest (further l.up) (to_z w32 l.m) (to_z w32 l.y) (drop l.i l.wish) (drop l.i l.values) ≡ furthest (further l.up) (to_z w32 l.edge) (to_z w32 l.y) l.wish l.values)
+    × (furthest (further l.up) l.m l.y (drop l.i l.wish) (drop l.i l.values) ≡ furthest (further l.up) l.edge l.y l.wish l.values)
 
 abbrev pub decreases-loop-i : goal.decreases-loop-i
 decreases-loop-i l = 4 - l.i

@@ -1,6 +1,5 @@
 -- `sample_row::moves::shift` meets its contract. The loop's invariant: the first i numbers are moved.
 use mathlib.Core.Path.{refl, ap, ◌∙◌}
-use Prim.Native.Nat.{◌-◌}
 use native.Mathlib.Omega.{arith}
 use lib.ListN.{length-set}
 use mir.Syntax.{w32}
@@ -16,19 +15,19 @@ pub loop-i-init : goal.loop-i-init
 loop-i-init c = (omega arith, refl, mapped_none _ _)
 
 pub moved_one-requires : goal.moved_one-requires
-moved_one-requires c =     let l = c.loop-i in
+moved_one-requires c = let l = c.loop-i in
     let f = moved c.args.up (to_z w32 (of_z w32 c.args.m)) in
     rw (to_z-of_z (sfits_of c.x-1.given), mapped_here f c.args.part.now l.part l.i l.invariant.2 (omega arith))
     (movable_at c.args.part.now l.i c.requires)
 
 pub loop-i-preserved : goal.loop-i-preserved
-loop-i-preserved c =     let l = c.loop-i in
+loop-i-preserved c = let l = c.loop-i in
     let f = moved c.args.up (to_z w32 (of_z w32 c.args.m)) in
     let h = mapped_here f c.args.part.now l.part l.i l.invariant.2 (omega arith) in (
       omega arith,
       simp length-set l.invariant.1,
       mapped_more f c.args.part.now l.part l.i l.invariant.2 (omega arith) (to_z w32 (of_z w32 c.moved_one.result))
-          (to_z-of_z {w = w32} (sfits_of c.moved_one.type-inv) ∙ c.moved_one.ensures ∙ ap f (to_z-of_z (sfits_of c.x-1.given) ∙ h)),
+          (to_z-of_z {w = w32} (sfits_of c.moved_one.type_inv) ∙ c.moved_one.ensures ∙ ap f (to_z-of_z {w = w32} (sfits_of c.x-1.given) ∙ h)),
     )
 
 pub returns : goal.returns

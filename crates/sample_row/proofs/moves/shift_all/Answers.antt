@@ -1,6 +1,6 @@
 -- `sample_row::moves::shift_all` meets its contract. The loop's invariant: with the parts from a on still to do, the whole is what was asked.
 use mathlib.Core.Path.{◌≡◌, refl, sym, ap, ◌∙◌, subst}
-use Prim.Native.Nat.{◌+◌, ◌-◌}
+use Prim.Native.Nat.{◌+◌}
 use native.Mathlib.Omega.{arith}
 use mathlib.Core.List.{List}
 use lib.IntN.{ℤ}
@@ -19,38 +19,38 @@ pub loop-a-init : goal.loop-a-init
 loop-a-init c = (omega arith, search rules, search rules, refl, c.requires.0, c.requires.1, refl)
 
 pub shift_part-requires : goal.shift_part-requires
-shift_part-requires c =     let l = c.loop-a in
+shift_part-requires c = let l = c.loop-a in
     let a = c.args in
     let f = moved a.up (to_z w32 (of_z w32 a.m)) in (
-      part_fits f (All Movable) a.t2 a.t3 l.row l.a (omega arith) (omega arith) l.invariant.4,
-      part-all f (All Movable) a.t2 a.t3 l.row l.a (omega arith) (omega arith) l.invariant.4 l.invariant.5,
+      part_fits f (All Movable) a.starts a.counts l.row l.a (omega arith) (omega arith) l.invariant.4,
+      part-all f (All Movable) a.starts a.counts l.row l.a (omega arith) (omega arith) l.invariant.4 l.invariant.5,
     )
 
 pub loop-a-preserved : goal.loop-a-preserved
-loop-a-preserved c =     let l = c.loop-a in
+loop-a-preserved c = let l = c.loop-a in
     let a = c.args in
     let f = moved a.up (to_z w32 (of_z w32 a.m)) in
-    let s = get_or a.t2 l.a 0 in
-    let k = get_or a.t3 l.a 0 in
-    let fit = part_fits f (All Movable) a.t2 a.t3 l.row l.a (omega arith) (omega arith) l.invariant.4 in
-    let e : c.shift_part.new.0 ≡ on_part f s k l.row = c.shift_part.ensures in (
+    let s = get_or a.starts l.a 0 in
+    let k = get_or a.counts l.a 0 in
+    let fit = part_fits f (All Movable) a.starts a.counts l.row l.a (omega arith) (omega arith) l.invariant.4 in
+    let e : c.shift_part.new.row ≡ on_part f s k l.row = c.shift_part.ensures in (
       omega arith,
       l.invariant.1,
       l.invariant.2,
       ap length e ∙ part_length f s k l.row fit ∙ l.invariant.3,
-      subst (λ (row : List ℤ). Apart 0 (drop (l.a + 1) a.t2) (drop (l.a + 1) a.t3) (length row)) (sym e)
-          (apart_next f (All Movable) a.t2 a.t3 l.row l.a (omega arith) (omega arith) l.invariant.4),
-      subst (λ (row : List ℤ). All (All Movable) (tapes_at (drop (l.a + 1) a.t2) (drop (l.a + 1) a.t3) row)) (sym e)
-          (all-next f (All Movable) a.t2 a.t3 l.row l.a (omega arith) (omega arith) l.invariant.4 l.invariant.5),
-      ap (on_parts f (drop (l.a + 1) a.t2) (drop (l.a + 1) a.t3)) e
-          ∙ sym (parts-step f (All Movable) a.t2 a.t3 l.row l.a (omega arith) (omega arith)) ∙ l.invariant.6,
+      subst (λ (row : List ℤ). Apart 0 (drop (l.a + 1) a.starts) (drop (l.a + 1) a.counts) (length row)) (sym e)
+          (apart_next f (All Movable) a.starts a.counts l.row l.a (omega arith) (omega arith) l.invariant.4),
+      subst (λ (row : List ℤ). All (All Movable) (tapes_at (drop (l.a + 1) a.starts) (drop (l.a + 1) a.counts) row)) (sym e)
+          (all-next f (All Movable) a.starts a.counts l.row l.a (omega arith) (omega arith) l.invariant.4 l.invariant.5),
+      ap (on_parts f (drop (l.a + 1) a.starts) (drop (l.a + 1) a.counts)) e
+          ∙ sym (parts-step f (All Movable) a.starts a.counts l.row l.a (omega arith) (omega arith)) ∙ l.invariant.6,
     )
 
 pub returns : goal.returns
-returns c =     let l = c.loop-a in
+returns c = let l = c.loop-a in
     let a = c.args in
     let f = moved a.up (to_z w32 (of_z w32 a.m)) in
-    sym (parts-end f a.t2 (drop l.a a.t3) l.row l.a (omega arith)) ∙ l.invariant.6 ∙ rw (to_z-of_z c.ranges.m)
+    sym (parts-end f a.starts (drop l.a a.counts) l.row l.a (omega arith)) ∙ l.invariant.6 ∙ rw (to_z-of_z c.ranges.m)
 
 pub loop-a-smaller : goal.loop-a-smaller
 loop-a-smaller c = omega arith

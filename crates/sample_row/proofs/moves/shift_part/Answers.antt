@@ -9,9 +9,9 @@ use Rattle.model.specs.Inner.Lists.{All}
 use Rattle.sample_row.proofs.moves.shift_part.Goals as goal
 
 pub shift-requires : goal.shift-requires
-shift-requires c =     let a = c.args in
+shift-requires c = let a = c.args in
     subst (λ (n : ℕ). All Movable (take n (drop a.s a.row.now))) (sym (add_sub a.s a.k)) c.requires.1
 
 pub returns : goal.returns
-returns c =     let a = c.args in
-    part-is (moved a.up a.m) a.row.now a.s a.k c.shift.new.0 (c.shift.ensures ∙ rw (to_z-of_z c.ranges.m))
+returns c = let a = c.args in
+    part-is (moved a.up a.m) a.row.now a.s a.k c.shift.new.part (c.shift.ensures ∙ rw (to_z-of_z c.ranges.m))
