@@ -78,9 +78,9 @@ report_place text c c' r h why e = go (read_flow text) refl h.answer
 
 -- ---- a sample
 reason_place : (flow : Flow) (i : ℕ) (e : Exit) (cells : ℕ) (row : List ℤ) (why : Refusal) → Reason flow i e cells row why → place_of why ≤ 66
-reason_place flow i e cells row NoSuchExit (no_such_exit p) = omega arith
-reason_place flow i e cells row TooFewCells (too_few_cells w o) = omega arith
-reason_place flow i e cells row ShortRow (short_row w h s) = omega arith
+reason_place flow i e cells row _ (no_such_exit p) = omega arith
+reason_place flow i e cells row _ (too_few_cells w o) = omega arith
+reason_place flow i e cells row _ (short_row w h s) = omega arith
 
 pub sample-place : {text : List ℕ} {i : ℕ} {exit : Bool} {c c' : List (List ℕ)} {row row' : List ℤ} {r : SampleAnswer}
     → SampleIs text i exit c c' row row' r → (why : Refusal) → r.end ≡ SampleEnds.TheVariants.Refused why → place_of why ≤ 66

@@ -13,7 +13,7 @@ loop-i-init c = (omega arith, omega arith, refl, λ row r p. p)
 pub loop-i-preserved : goal.loop-i-preserved
 loop-i-preserved c =     let a = c.args in
     let l = c.loop-i in
-    let next = lines_next a.t3 a.t4 a.t5 64 l.i (omega arith) in (
+    let next = lines_next a.two a.p a.m 64 l.i (omega arith) in (
       omega arith,
       search rules,
       search rules,
@@ -23,7 +23,7 @@ loop-i-preserved c =     let a = c.args in
 pub returns : goal.returns
 returns c =     let a = c.args in
     let l = c.loop-i in
-    (l.invariant.3 l.out l.end (rw (lines-last a.t3 a.t4 a.t5 64 l.i (omega arith)) (put-none l.out l.end)), omega arith)
+    (l.invariant.3 l.out l.end (rw (lines-last a.two a.p a.m 64 l.i (omega arith)) (put-none l.out l.end)), omega arith)
 
 pub shape_of-out : goal.shape_of-out
 shape_of-out c = c.loop-i.invariant.2

@@ -11,10 +11,9 @@ returns-in-Given c =     let a = c.args in
     let line = c.word_line-at in
     let given = c.in-Given.is in
     let long : length a.out.now ≡ 4096 = search rules in
-    given-text a.r a.out.now c.all_exits.new.0 c.all_exits.result (omega arith) given line.ensures.0 c.all_exits.ensures.0
+    given-text a.r a.out.now c.all_exits.new.out c.all_exits.result (omega arith) given line.ensures.0 c.all_exits.ensures.0
 
 pub returns-in-Refused : goal.returns-in-Refused
-returns-in-Refused c =     let end = c.end-1.given in
-    let a = c.args in
+returns-in-Refused c =     let a = c.args in
     let long : length a.out.now ≡ 4096 = search rules in
-    refusal-text a.r a.out.now c.refusal_line.new.0 c.refusal_line.result (omega arith) end.0.0 end.1 c.refusal_line.ensures.0
+    refusal-text a.r a.out.now c.refusal_line.new.out c.refusal_line.result (omega arith) c.in-Refused.why c.in-Refused.is c.refusal_line.ensures.0

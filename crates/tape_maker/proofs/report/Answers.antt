@@ -4,5 +4,5 @@ use Rattle.tape_maker.proofs.report.Goals as goal
 
 pub returns : goal.returns
 returns c =     let a = c.args in
-    report_is a.text.now a.cells.now c.answer-r.new.1.0 c.release.new.0 c.answer-r.result c.answer-r.ensures c.answer-r.auto.1.0
+    report_is a.text.now a.cells.now c.answer-r.new.cells c.release.new.cells c.answer-r.result c.answer-r.ensures c.answer-r.auto.cells
     c.is_refusal.ensures c.release.ensures

@@ -11,7 +11,7 @@ tell_bound-requires c = λ why e. bound-place _ why (sym c.bound-bound.ensures �
 
 pub returns : goal.returns
 returns c =     let answer = c.args.answer in
-    subst (λ (a : BoundAnswer). BoundTold a (answer.now ∷ []) (c.tell_bound.new.1.0 ∷ []) c.tell_bound.result) c.bound-bound.ensures
+    subst (λ (a : BoundAnswer). BoundTold a (answer.now ∷ []) (c.tell_bound.new.answer ∷ []) c.tell_bound.result) c.bound-bound.ensures
     c.tell_bound.ensures
 
 pub shape_of-answer : goal.shape_of-answer

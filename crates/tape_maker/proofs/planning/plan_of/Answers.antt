@@ -42,7 +42,7 @@ returns c =     let flow = c.args.flow in
       legal = c.requires.0;
       prepared = rows-prepared flow
           (subst (λ (z : ℤ). Each (op_of z) blank flow.instructions flow.count ops.result) (lo-is (goal.at.returns c).After-width) ops.ensures);
-      (goal.at.returns c).After-width = c.width.ensures ∙ ap₂ width_of range.0 range.1;
+      width = c.width.ensures ∙ ap₂ width_of range.0 range.1;
       begins = c.start.ensures ∙ ap start_of (lo-is (goal.at.returns c).After-width);
       low = lo-is (goal.at.returns c).After-width;
       high = hi-is (goal.at.returns c).After-width;

@@ -28,20 +28,20 @@ abbrev past : Row
 past = row Read []
 
 pub prepare-requires : goal.prepare-requires
-prepare-requires c =     let long : length c.args.t1 ≡ 64 = search rules in
-    subst FitBytes (same_there c.args.t1 c.loop-i.i (row_of stop) past (omega arith)) (c.requires.1 c.loop-i.i (omega arith))
+prepare-requires c =     let long : length c.args.instructions ≡ 64 = search rules in
+    subst FitBytes (same_there c.args.instructions c.loop-i.i (row_of stop) past (omega arith)) (c.requires.1 c.loop-i.i (omega arith))
 
 pub loop-i-preserved : goal.loop-i-preserved
 loop-i-preserved c =     let a = c.args in
     let i = c.loop-i.i in
-    let long : length a.t1 ≡ 64 = search rules in (
+    let long : length a.instructions ≡ 64 = search rules in (
       omega arith,
       c.loop-i.invariant.1,
-      filled_to_more _ blank a.t1 a.count i _ _ (omega arith) c.loop-i.invariant.2
-          (c.prepare.ensures ∙ ap (op_of _) (sym (line_row a.t1 a.count i past (omega arith) (omega arith)))),
+      filled_to_more _ blank a.instructions a.count i _ _ (omega arith) c.loop-i.invariant.2
+          (c.prepare.ensures ∙ ap (op_of _) (sym (line_row a.instructions a.count i past (omega arith) (omega arith)))),
     )
 
 pub returns : goal.returns
 returns c = let a = c.args in
-    subst (λ (z : ℤ). Each (op_of z) blank a.t1 a.count c.loop-i.ops) (to_z-of_z c.ranges.lo)
-    (filled-end _ blank a.t1 a.count c.loop-i.i _ (omega arith) c.loop-i.invariant.2)
+    subst (λ (z : ℤ). Each (op_of z) blank a.instructions a.count c.loop-i.ops) (to_z-of_z c.ranges.lo)
+    (filled-end _ blank a.instructions a.count c.loop-i.i _ (omega arith) c.loop-i.invariant.2)

@@ -15,13 +15,13 @@ loop-i-init c = (omega arith, c.requires, filled-start has_exits false _ _ false
 pub loop-i-preserved : goal.loop-i-preserved
 loop-i-preserved c =     let a = c.args in
     let i = c.loop-i.i in
-    let long : length a.t1 ≡ 64 = search rules in (
+    let long : length a.instructions ≡ 64 = search rules in (
       omega arith,
       c.loop-i.invariant.1,
-      filled_to_more has_exits false a.t1 a.count i _ _ (omega arith) c.loop-i.invariant.2
-          (c.has_two.ensures ∙ exits-held a.t1 a.count i _ (omega arith) (omega arith)),
+      filled_to_more has_exits false a.instructions a.count i _ _ (omega arith) c.loop-i.invariant.2
+          (c.has_two.ensures ∙ exits-held a.instructions a.count i _ (omega arith) (omega arith)),
     )
 
 pub returns : goal.returns
 returns c = let a = c.args in
-    filled-end has_exits false a.t1 a.count c.loop-i.i _ (omega arith) c.loop-i.invariant.2
+    filled-end has_exits false a.instructions a.count c.loop-i.i _ (omega arith) c.loop-i.invariant.2
