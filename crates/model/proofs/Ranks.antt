@@ -15,17 +15,12 @@ use Rattle.model.specs.Pattern.{Mark, inside, equal, among, different, rank, mar
 use Rattle.model.proofs.Integers.{zarith, lt_out, true_in, true_out, false_out, and_in, and_out, or_in, or_right}
 use Rattle.model.proofs.Lists.{get_d_map}
 use Rattle.model.proofs.View.{Known}
+pub use Rattle.model.proofs.EqualValues.{equal_in, equal_out}
 use Rattle.model.proofs.Alike.{Alike, alike_sym, alike_trans}
 use Rattle.model.proofs.Side.{place, spread, spread_value, mark-inside, moved_inside, Side, upper, lower, side}
 use Rattle.model.proofs.Side.{Zone, beyond, within, zone, Tell, far, same, near, tell}
 use Rattle.model.specs.Inner.Integers.{Inside}
 use Rattle.model.specs.Inner.View.{Term, held, literal, lane_value, term}
-
-pub equal_in : (x y : ℤ) → T (equal x y) → x ≡ y
-equal_in x y h = let (p, q) = and_in (not (lt_z x y)) (not (lt_z y x)) h in omega zarith
-
-pub equal_out : (x y : ℤ) → x ≡ y → T (equal x y)
-equal_out x y e = and_out (not (lt_z x y)) (not (lt_z y x)) (omega zarith) (omega zarith)
 
 -- ---- the count of different values depends on tests alone
 among_same : (x y : ℤ) (v w : List ℤ) → length v ≡ length w → ((i : ℕ) → equal x (lane_value v i) ≡ equal y (lane_value w i)) → among x v ≡ among y w

@@ -1,3 +1,4 @@
 pub mod Filling
+pub mod Tallies
 pub mod Shapes
 pub mod Patterns

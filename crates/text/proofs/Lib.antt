@@ -4,5 +4,6 @@ pub mod Words
 pub mod Digits
 pub mod Cap
 pub mod Joined
+pub mod DigitByDigit
 pub mod Decimal
 pub mod Examples
