@@ -3,7 +3,6 @@
 use mathlib.Core.Path.{◌≡◌, refl, sym, ap, ◌∙◌, subst}
 use mathlib.Core.Bool.{Bool, true, false, not, cond, ◌&&◌, ◌||◌, true≢false}
 use mathlib.Core.List.{List}
-use mathlib.Core.Logic.{◌⊎◌, inl, inr}
 use Prim.Native.Nat.{ℕ, suc, ◌+◌, ◌<◌, ◌≤◌}
 use native.Mathlib.Decide.{ℕ_discrete}
 use native.Mathlib.Omega.{arith}
@@ -22,10 +21,6 @@ use Rattle.configuration.proofs.WordExits.{free_takes}
 use Rattle.configuration.specs.declared.Words.{Words}
 use Rattle.cells.specs.declared.Found.TheVariants.{At, Nothing}
 use Rattle.search_table.specs.Inner.Passes.{blank, takes_at, FirstIs, Listed, unmet, met, Column}
-
-pub either : {A B C : Type 0} → (A → C) → (B → C) → A ⊎ B → C
-either f g (inl a) = f a
-either f g (inr b) = g b
 
 -- ---- words that are an entry's
 pub exit-words : (w : ℕ) (op : Op) (e : Exit) {b : Bool} {x y : Words} → b ≡ takes_of w op x e → x ≡ y → b ≡ takes_of w op y e

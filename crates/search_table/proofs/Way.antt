@@ -1,7 +1,7 @@
 -- The way to an entry of a finished table, as it is traced into a row: it begins with the words of the start, ends with those of the entry,
 -- and from the words at each place an edge leads to the words at the next, whose distance is greater by what the edge costs. So a run follows
 -- it step by step.
-use mathlib.Core.Path.{◌≡◌, sym, ap, ◌∙◌}
+use mathlib.Core.Path.{◌≡◌, ap, ◌∙◌}
 use mathlib.Core.List.{List}
 use mathlib.Core.Option.{Option}
 use Prim.Native.Nat.{ℕ, ◌+◌, ◌<◌, ◌≤◌}

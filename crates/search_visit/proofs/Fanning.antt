@@ -61,12 +61,8 @@ read_opens : (op : Op) (x : Words) → op.action ≡ Read → ended_of x.place o
 read_opens op x e h = sym (opens_by_lem op x Read true e (ap not (sym h)))
 
 -- by the answer of `opens`
-pub shut_by : (op : Op) (x : Words) (b : Bool) → b ≡ opens_of op x → not b ≡ true → opens_of op x ≡ false
-shut_by op x b e h = sym e ∙ not-true b h
-
-pub open_by : (op : Op) (x : Words) (b : Bool) → b ≡ opens_of op x → not b ≡ false → opens_of op x ≡ true
-open_by op x true e h = sym e
-open_by op x false e h = absurd (true_false h)
+pub by_opens : (op : Op) (x : Words) {b t : Bool} → b ≡ opens_of op x → b ≡ t → opens_of op x ≡ t
+by_opens op x e h = sym e ∙ h
 
 -- ---- the members by the records from b up to the record before y
 abbrev pub Tried : (w v : ℕ) (f : Words) (b y : ℕ) (z : Words) → Type 0
@@ -276,8 +272,8 @@ module _ {w : ℕ} {op : Op} {x : Words} (fine : FanFits w op x) {r : Rows} {cou
 
       -- the members can be visited
       pub first-ready : k < count
-          → Filled e₁ heads₁ nexts₁ n cells × ((k < n) × (Width w × (f'.pattern ≡ assign_of w f'.pattern op.variable low)))
-      first-ready l = (met.filled, (omega (arith, met-count met), (fine.width, first_own fine o f' q)))
+          → Filled e₁ heads₁ nexts₁ n cells × (k < n) × Width w × (f'.pattern ≡ assign_of w f'.pattern op.variable low)
+      first-ready l = (met.filled, omega (arith, met-count met), fine.width, first_own fine o f' q)
 
       -- the fan is marked
       pub marked-answer : (fans : List ℕ) → FreshIs r.fans fans count (grown_of s) → is_marked fans i op.variable ≡ true

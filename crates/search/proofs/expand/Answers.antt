@@ -23,36 +23,34 @@ fine c = subst (FanFits c.args.w c.args.op) (sym (same c)) c.requires.fan_fits
 
 -- ---- the needs
 pub returns-then-weight-ne1 : goal.returns-then-weight-ne1
-returns-then-weight-ne1 c =     expand_none _ _ _ _ c.requires.search_ready (λ e. omega (arith, c.if-weight-ne1.true, c.weight.ensures, e))
+returns-then-weight-ne1 c = expand_none _ _ _ _ c.requires.search_ready (λ e. omega (arith, c.if-weight-ne1.true, c.weight.ensures, e))
 
 pub words_at-x-requires : goal.words_at-x-requires
-words_at-x-requires c =     let p = (c.requires.search_ready, c.requires.i_lt_count, c.requires.fan_fits, c.requires.i_bound) in
-    entry-room _ p.0 p.1.0
+words_at-x-requires c = entry-room _ c.requires.search_ready c.requires.i_lt_count
 
 pub get-d-requires : goal.get-d-requires
-get-d-requires c =     let p = (c.requires.search_ready, c.requires.i_lt_count, c.requires.fan_fits, c.requires.i_bound) in
-    (entry-room _ p.0 p.1.0, omega arith)
+get-d-requires c = (entry-room _ c.requires.search_ready c.requires.i_lt_count, omega arith)
 
 pub overflow_add-d : goal.overflow_add-d
-overflow_add-d c =     record { fits = omega (arith, c.requires.i_bound, c.get-d.ensures) }
+overflow_add-d c = record { fits = omega (arith, c.requires.i_bound, c.get-d.ensures) }
 
 pub fan-g-requires : goal.fan-g-requires
-fan-g-requires c =     record { table = c.requires.table; search_ready = c.requires.search_ready; k_lt_count = c.requires.i_lt_count; fan_fits = fine (goal.at.fan-g-requires c).After-get-d }
+fan-g-requires c = record { table = c.requires.table; search_ready = c.requires.search_ready; k_lt_count = c.requires.i_lt_count; fan_fits = fine (goal.at.fan-g-requires c).After-get-d }
 
 pub returns-in_default : goal.returns-in_default
-returns-in_default c =     expanded_by _ _ _ _ _ _ _ _ _
+returns-in_default c = expanded_by _ _ _ _ _ _ _ _ _
     (expand_every _ _ _ _ _ _ _ _ _ (dear (goal.at.returns-in_default c).Else-weight-ne1) _ (fan_answer (fine (goal.at.returns-in_default c).After-get-d) _ _ _ _ _ _ _ c.fan-g.ensures c.in_default.is _)) (same (goal.at.returns-in_default c).After-get-d)
     (omega (arith, c.get-d.ensures))
 
 pub branch-y-requires : goal.branch-y-requires
-branch-y-requires c =     record { table = c.requires.table; width = (fine (goal.at.branch-y-requires c).After-get-d).width; op_value = dear (goal.at.branch-y-requires c).Else-weight-ne1 }
+branch-y-requires c = record { table = c.requires.table; width = (fine (goal.at.branch-y-requires c).After-get-d).width; op_value = dear (goal.at.branch-y-requires c).Else-weight-ne1 }
 
 pub visit-s-requires : goal.visit-s-requires
-visit-s-requires c =     let (filled, stored) = next-ready (fine (goal.at.visit-s-requires c).After-get-d) _ _ _ _ _ _ _ c.fan-g.ensures c.in-To.is c.requires.i_lt_count in
+visit-s-requires c = let (filled, stored) = next-ready (fine (goal.at.visit-s-requires c).After-get-d) _ _ _ _ _ _ _ c.fan-g.ensures c.in-To.is c.requires.i_lt_count in
     record { filled_in = filled; k_lt_count = omega (arith, stored) }
 
 pub returns : goal.returns
-returns c =     expanded_by _ _ _ _ _ _ _ _ _
+returns c = expanded_by _ _ _ _ _ _ _ _ _
     (expand_every _ _ _ _ _ _ _ _ _ (dear (goal.at.returns c).Else-weight-ne1) _
     (next-answer (fine (goal.at.returns c).After-get-d) _ _ _ _ _ _ _ c.fan-g.ensures c.in-To.is c.branch-y.ensures _ _
     c.visit-s.ensures.fresh_in c.visit-s.ensures.visited_in c.after_visit.ensures)) (same (goal.at.returns c).After-get-d) (omega (arith, c.get-d.ensures))

@@ -11,19 +11,19 @@ unfolding SearchedIs
 returns-then-size-eq0 c = λ s is. none_fits _ _ _ _ (sym c.cells_of-size.ensures ∙ omega (arith, c.if-size-eq0.true))
 
 pub begin-requires : goal.begin-requires
-begin-requires c =     record { size_nonzero = omega (arith, c.if-size-eq0.false); size_bound = subst (λ (n : ℕ). c.cells_of-size.result ≤ n) c.cells_of-size.ensures (omega arith) }
+begin-requires c = record { size_nonzero = omega (arith, c.if-size-eq0.false); size_bound = subst (λ (n : ℕ). c.cells_of-size.result ≤ n) c.cells_of-size.ensures (omega arith) }
 
 pub walk-requires : goal.walk-requires
-walk-requires c =     record { table = c.requires.table; exploring = (
-        c.requires.start_value.0,
-        begun_exploring _ _ c.requires.start_value.1 c.begin.ensures
-            (marks-room c.args.cells.now _ _ c.cells_of-size.ensures c.begin.auto.0),
-      ) }
+walk-requires c = record {
+  table = c.requires.table;
+  exploring = (
+    c.requires.start_value.0,
+    begun_exploring _ _ c.requires.start_value.1 c.begin.ensures
+        (marks-room c.args.cells.now _ _ c.cells_of-size.ensures c.begin.auto.cells),
+  );
+}
 
 pub returns : goal.returns
-returns c =     λ s is. of_all_cells _ _ _ _ _ _ _ c.cells_of-size.ensures
+returns c = λ s is. of_all_cells _ _ _ _ _ _ _ c.cells_of-size.ensures
     (c.walk.ensures s (begun_exploring _ _ is c.begin.ensures
-    (marks-room c.args.cells.now _ _ c.cells_of-size.ensures c.begin.auto.0)))
-
-pub cells_of-size-requires : goal.cells_of-size-requires
-cells_of-size-requires c = search
+    (marks-room c.args.cells.now _ _ c.cells_of-size.ensures c.begin.auto.cells)))

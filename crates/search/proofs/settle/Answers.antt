@@ -2,7 +2,6 @@
 use mathlib.Core.Path.{◌≡◌, refl, sym, ◌∙◌, subst}
 use mathlib.Core.Bool.{true}
 use native.Mathlib.Omega.{arith}
-use borrow.Author.Tests.{not-true, not-false}
 use Rattle.configuration.specs.Inner.Step.{goes_on_of}
 use Rattle.configuration.proofs.WordExits.{goes_on_free}
 use Rattle.cells.specs.Inner.Columns.{columns_of}
@@ -18,32 +17,29 @@ same : (c : After-get-d) → c.words_at-x.result ≡ words_at (entries_of (colum
 same c = c.words_at-x.ensures
 
 going_on : (c : After-get-d) → goes_on_of c.args.op ≡ true
-going_on c = sym c.goes_on.ensures ∙ not-false _ c.if-not-goes_on.left
+going_on c = sym c.goes_on.ensures ∙ c.if-not-goes_on.false
 
 fine : (c : After-get-d) → FanFits c.args.w c.args.op c.words_at-x.result
 fine c = subst (FanFits c.args.w c.args.op) (sym (same c)) c.requires.fan_fits
 
 -- ---- the needs
 pub returns-then-not-goes_on : goal.returns-then-not-goes_on
-returns-then-not-goes_on c =     let p = (c.requires.search_ready, c.requires.i_lt_count, c.requires.fan_fits) in
-    settle_none _ p.0 p.1.0 (sym c.goes_on.ensures ∙ not-true _ c.if-not-goes_on.true)
+returns-then-not-goes_on c = settle_none _ c.requires.search_ready c.requires.i_lt_count (sym c.goes_on.ensures ∙ c.if-not-goes_on.true)
 
 pub words_at-x-requires : goal.words_at-x-requires
-words_at-x-requires c =     let p = (c.requires.search_ready, c.requires.i_lt_count, c.requires.fan_fits) in
-    entry-room _ p.0 p.1.0
+words_at-x-requires c = entry-room _ c.requires.search_ready c.requires.i_lt_count
 
 pub get-d-requires : goal.get-d-requires
-get-d-requires c =     let p = (c.requires.search_ready, c.requires.i_lt_count, c.requires.fan_fits) in
-    (entry-room _ p.0 p.1.0, omega arith)
+get-d-requires c = (entry-room _ c.requires.search_ready c.requires.i_lt_count, omega arith)
 
 pub follow-y-requires : goal.follow-y-requires
-follow-y-requires c =  record { table = c.requires.table; width = (fine (goal.at.follow-y-requires c).After-get-d).width; valid = (fine (goal.at.follow-y-requires c).After-get-d).valid; op_value = going_on (goal.at.follow-y-requires c).After-get-d }
+follow-y-requires c = record { table = c.requires.table; width = (fine (goal.at.follow-y-requires c).After-get-d).width; valid = (fine (goal.at.follow-y-requires c).After-get-d).valid; op_value = going_on (goal.at.follow-y-requires c).After-get-d }
 
 pub visit-s-requires : goal.visit-s-requires
-visit-s-requires c =  record { filled_in = c.requires.search_ready.filled; k_lt_count = omega (arith, c.requires.i_lt_count) }
+visit-s-requires c = record { filled_in = c.requires.search_ready.filled; k_lt_count = omega (arith, c.requires.i_lt_count) }
 
 pub returns : goal.returns
-returns c =     expanded_by _ _ _ _ _ _ _ _ _
+returns c = expanded_by _ _ _ _ _ _ _ _ _
     (expand_every _ _ _ _ _ _ _ _ _ (goes_on_free _ (going_on (goal.at.returns c).After-get-d)) _
     (next-answer (fine (goal.at.returns c).After-get-d) _ _ _ _ _ _ _ (shut_answer (fine (goal.at.returns c).After-get-d) c.requires.search_ready _ _ (goes_on_shut _ _ (going_on (goal.at.returns c).After-get-d))) refl c.follow-y.ensures _ _
     c.visit-s.ensures.fresh_in c.visit-s.ensures.visited_in c.after_visit.ensures)) (same (goal.at.returns c).After-get-d) (omega (arith, c.get-d.ensures))

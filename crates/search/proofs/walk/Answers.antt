@@ -3,7 +3,7 @@
 use mathlib.Core.Path.{◌≡◌, refl, sym, ap, ◌∙◌, subst}
 use mathlib.Core.List.{List}
 use mathlib.Core.Logic.{inl, inr}
-use Prim.Native.Nat.{ℕ, ◌+◌, ◌-◌, ◌<◌}
+use Prim.Native.Nat.{ℕ, ◌+◌, ◌<◌}
 use native.Mathlib.Omega.{arith}
 use lib.ListN.{length, get_or}
 use Rattle.configuration.specs.Inner.Place.{at_of}
@@ -27,62 +27,59 @@ use Rattle.search.proofs.walk.Goals.{After-index-i, After-index-i-else-c-n, Else
 use Rattle.search.proofs.walk.Goals as goal
 
 -- ---- the search, as a turn finds it
-exploring : (c : In-loop-k) →  let s = c.requires.exploring.0 in Exploring s.lo c.args.w s.flow (columns_of c.loop-k.cells) c.loop-k.n c.args.size c.loop-k.c c.loop-k.k
+exploring : (c : In-loop-k) → let s = c.requires.exploring.0 in Exploring s.lo c.args.w s.flow (columns_of c.loop-k.cells) c.loop-k.n c.args.size c.loop-k.c c.loop-k.k
 exploring c = c.loop-k.invariant.0 c.requires.exploring.0 c.requires.exploring.1
 
-room : (c : tie.In-loop invariant-loop decreases-loop) (i : ℕ) → i < c.before.loop.n → i < length c.before.loop.cells
+room : (c : In-loop-k) (i : ℕ) → i < c.loop-k.n → i < length c.loop-k.cells
 room c i l = entry-room _ (exploring c).ready l
 
-stands : (c : tie.In-loop invariant-loop decreases-loop) (i : ℕ) → i < c.before.loop.n → Stands (get_or (columns_of c.before.loop.cells).places i 0)
-stands c i l = let s = (start c).requires.1.0 in entry-stands s.fit (exploring c) s.legal i l
+stands : (c : In-loop-k) (i : ℕ) → i < c.loop-k.n → Stands (get_or (columns_of c.loop-k.cells).places i 0)
+stands c i l = let s = c.requires.exploring.0 in entry-stands s.fit (exploring c) s.legal i l
 
 -- ---- a turn: the entry is of the flow's instruction, whatever flow that is prepared from, and expanded along its edges of one cost
-abbrev Picked : In-loop-k → Op → (at : ℕ) → Type 0
-Picked c op at =
-    (s : Subject c.args.w c.args.t4) → op ≡ op_at s.lo s.flow (words_at (entries_of (columns_of c.loop-k.cells)) at)
+abbrev Picked : (w : ℕ) (ops : List Op) (cells : List (List ℕ)) → Op → (at : ℕ) → Type 0
+Picked w ops cells op at = (s : Subject w ops) → op ≡ op_at s.lo s.flow (words_at (entries_of (columns_of cells)) at)
 
-abbrev Grew : In-loop-k → Op → (cells : List (List ℕ)) (at cost : ℕ) → Grown → Type 0
-Grew c op cells = let b = c.args in ExpandedIs b.w op (columns_of c.loop-k.cells) (columns_of cells) c.loop-k.n b.size
+module _ (c : In-loop-k) {at cost : ℕ} (turn : Turn c.loop-k.n c.loop-k.c c.loop-k.k at cost) (op : Op)
+    (pick : Picked c.args.w c.args.ops c.loop-k.cells op at) where
+  fine : FanFits c.args.w op (words_at (entries_of (columns_of c.loop-k.cells)) at)
+  fine = let s = c.requires.exploring.0 in entry_fine s.fit (exploring c) c.loop-k-test.true turn (pick s)
 
-module _ (c : tie.In-loop invariant-loop decreases-loop) {at cost : ℕ} (turn : Turn c.before.loop.n c.before.loop.c c.before.loop.k at cost) (op : Op)
-    (pick : Picked c op at) where
-  fine : FanFits (start c).args.w op (words_at (entries_of (columns_of c.before.loop.cells)) at)
-  fine = let s = (start c).requires.1.0 in entry_fine s.fit (exploring c) c.loop-test.true turn (pick s)
-
-  module _ (cells : List (List ℕ)) (g : Grown) (grew : Grew c op cells at cost g) where
-    again : {m c' k' : ℕ} → g ≡ To m → length cells ≡ length c.before.loop.cells → c' + cost ≡ c.before.loop.c + 1
-        → k' ≡ c.before.loop.k + cost → let b = (start c).args in
-        ((s : Subject b.w b.t4) → Exploring s.lo b.w s.flow (columns_of b.cells.now) 1 b.size 0 0
+  module _ (cells : List (List ℕ)) (g : Grown)
+      (grew : ExpandedIs c.args.w op (columns_of c.loop-k.cells) (columns_of cells) c.loop-k.n c.args.size at cost g) where
+    again : {m c' k' : ℕ} → g ≡ To m → length cells ≡ length c.loop-k.cells → c' + cost ≡ c.loop-k.c + 1 → k' ≡ c.loop-k.k + cost
+        → let b = c.args in
+        ((s : Subject b.w b.ops) → Exploring s.lo b.w s.flow (columns_of b.cells.now) 1 b.size 0 0
         → Exploring s.lo b.w s.flow (columns_of cells) m b.size c' k')
         × (length cells ≡ length b.cells.now)
     again is long settled expanded = (
       λ s begun.
-          explored s.fit (c.before.loop.invariant.0 s begun) c.loop-test.true turn (pick s) (grown_to (LeadsAt _ _ _ _) _ _ _ _ _ _ _ _ _ grew is)
+          explored s.fit (c.loop-k.invariant.0 s begun) c.loop-k-test.true turn (pick s) (grown_to (LeadsAt _ _ _ _) _ _ _ _ _ _ _ _ _ grew is)
           (column-long marks_field _ _ long) settled expanded,
-      long ∙ c.before.loop.invariant.1,
+      long ∙ c.loop-k.invariant.1,
     )
 
-    full : g ≡ Full → let b = (start c).args in
-        (s : Subject b.w b.t4) → Exploring s.lo b.w s.flow (columns_of b.cells.now) 1 b.size 0 0
+    full : g ≡ Full → let b = c.args in
+        (s : Subject b.w b.ops) → Exploring s.lo b.w s.flow (columns_of b.cells.now) 1 b.size 0 0
         → MoreThan (Reached (word_graph s.lo b.w s.flow)) b.size
     full is s begun =
-        explored_full s.fit (c.before.loop.invariant.0 s begun) c.loop-test.true turn (pick s) (grown_full (LeadsAt _ _ _ _) _ _ _ _ _ _ _ _ _ grew is)
+        explored_full s.fit (c.loop-k.invariant.0 s begun) c.loop-k-test.true turn (pick s) (grown_full (LeadsAt _ _ _ _) _ _ _ _ _ _ _ _ _ grew is)
 
 -- ---- an entry is settled
 late : (c : Then-c-n) → c.loop-k.c < c.loop-k.n
 late c = omega (arith, c.if-c-n.true, c.loop-k-test.true)
 
-settling : (c : Then-c-n) →  Turn c.loop-k.n c.loop-k.c c.loop-k.k c.loop-k.c 0
+settling : (c : Then-c-n) → Turn c.loop-k.n c.loop-k.c c.loop-k.k c.loop-k.c 0
 settling c = inl (late c, refl, refl)
 
-pick : (c : After-index-i) →  Picked c.before.before.before (get_or c.args.t4 c.index-i.result blank) c.loop-k.c
+pick : (c : After-index-i) → Picked c.args.w c.args.ops c.loop-k.cells (get_or c.args.ops c.index-i.result blank) c.loop-k.c
 pick c s = picked s.prepared _ _ (sym (ap at_of c.word.ensures) ∙ c.index-i.ensures.0) c.index-i.ensures.1
 
 -- ---- an entry is expanded
-expanding : (c : Else-c-n) →  Turn c.loop-k.n c.loop-k.c c.loop-k.k c.loop-k.k 1
+expanding : (c : Else-c-n) → Turn c.loop-k.n c.loop-k.c c.loop-k.k c.loop-k.k 1
 expanding c = inr (omega (arith, c.if-c-n.false), refl, refl)
 
-pick-2 : (c : After-index-i-else-c-n) →  Picked c.before.before.before (get_or c.args.t4 c.index-i-else-c-n.result blank) c.loop-k.k
+pick-2 : (c : After-index-i-else-c-n) → Picked c.args.w c.args.ops c.loop-k.cells (get_or c.args.ops c.index-i-else-c-n.result blank) c.loop-k.k
 pick-2 c s = picked s.prepared _ _ (sym (ap at_of c.word-else-c-n.ensures) ∙ c.index-i-else-c-n.ensures.0) c.index-i-else-c-n.ensures.1
 
 -- ---- the needs
@@ -90,53 +87,53 @@ pub loop-k-init : goal.loop-k-init
 loop-k-init c = (λ s x. x, refl)
 
 pub word-requires : goal.word-requires
-word-requires c =  (room (goal.at.word-requires c).At-loop-k _ (late (goal.at.word-requires c).Then-c-n), omega arith)
+word-requires c = (room (goal.at.word-requires c).In-loop-k _ (late (goal.at.word-requires c).Then-c-n), omega arith)
 
 pub index-i-requires : goal.index-i-requires
-index-i-requires c =     subst Stands (sym c.word.ensures) (stands (goal.at.index-i-requires c).At-loop-k _ (late (goal.at.index-i-requires c).Then-c-n))
+index-i-requires c = subst Stands (sym c.word.ensures) (stands (goal.at.index-i-requires c).In-loop-k _ (late (goal.at.index-i-requires c).Then-c-n))
 
 pub settle-g-requires : goal.settle-g-requires
-settle-g-requires c =     record { table = c.requires.table; search_ready = (exploring (goal.at.settle-g-requires c).In-loop-k).ready; i_lt_count = late (goal.at.settle-g-requires c).Then-c-n; fan_fits = fine (goal.at.settle-g-requires c).In-loop-k (settling (goal.at.settle-g-requires c).Then-c-n) _ (pick (goal.at.settle-g-requires c).After-index-i) }
+settle-g-requires c = record { table = c.requires.table; search_ready = (exploring (goal.at.settle-g-requires c).In-loop-k).ready; i_lt_count = late (goal.at.settle-g-requires c).Then-c-n; fan_fits = fine (goal.at.settle-g-requires c).In-loop-k (settling (goal.at.settle-g-requires c).Then-c-n) _ (pick (goal.at.settle-g-requires c).After-index-i) }
 
 pub returns-in_default : goal.returns-in_default
 unfolding SearchedIs
-returns-in_default c =     full (goal.at.returns-in_default c).In-loop-k (settling (goal.at.returns-in_default c).Then-c-n) _ (pick (goal.at.returns-in_default c).After-index-i) _ _ c.settle-g.ensures c.in_default.is
+returns-in_default c = full (goal.at.returns-in_default c).In-loop-k (settling (goal.at.returns-in_default c).Then-c-n) _ (pick (goal.at.returns-in_default c).After-index-i) _ _ c.settle-g.ensures c.in_default.is
 
 pub overflow_add-c : goal.overflow_add-c
-overflow_add-c c =     let x = exploring (goal.at.overflow_add-c c).In-loop-k in
+overflow_add-c c = let x = exploring (goal.at.overflow_add-c c).In-loop-k in
     record { fits = omega (arith, settled-within x, x.ready.filled.index.within, x.ready.filled.index.few) }
 
 pub loop-k-smaller-then-c-n : goal.loop-k-smaller-then-c-n
-loop-k-smaller-then-c-n c =     omega (arith, (exploring (goal.at.loop-k-smaller-then-c-n c).In-loop-k).ready.filled.index.within, late (goal.at.loop-k-smaller-then-c-n c).Then-c-n, c.loop-k-test.true)
+loop-k-smaller-then-c-n c = omega (arith, (exploring (goal.at.loop-k-smaller-then-c-n c).In-loop-k).ready.filled.index.within, late (goal.at.loop-k-smaller-then-c-n c).Then-c-n, c.loop-k-test.true)
 
 pub loop-k-preserved-then-c-n : goal.loop-k-preserved-then-c-n
-loop-k-preserved-then-c-n c =     again (goal.at.loop-k-preserved-then-c-n c).In-loop-k (settling (goal.at.loop-k-preserved-then-c-n c).Then-c-n) _ (pick (goal.at.loop-k-preserved-then-c-n c).After-index-i) _ _ c.settle-g.ensures c.in-To.is c.settle-g.auto.0 (omega arith) (omega arith)
+loop-k-preserved-then-c-n c = again (goal.at.loop-k-preserved-then-c-n c).In-loop-k (settling (goal.at.loop-k-preserved-then-c-n c).Then-c-n) _ (pick (goal.at.loop-k-preserved-then-c-n c).After-index-i) _ _ c.settle-g.ensures c.in-To.is c.settle-g.auto.cells (omega arith) (omega arith)
 
 pub word-requires-else-c-n : goal.word-requires-else-c-n
-word-requires-else-c-n c =  (room (goal.at.word-requires-else-c-n c).At-loop-k _ c.loop-k-test.true, omega arith)
+word-requires-else-c-n c = (room (goal.at.word-requires-else-c-n c).In-loop-k _ c.loop-k-test.true, omega arith)
 
 pub index-i-requires-else-c-n : goal.index-i-requires-else-c-n
-index-i-requires-else-c-n c =     subst Stands (sym c.word-else-c-n.ensures) (stands (goal.at.index-i-requires-else-c-n c).At-loop-k _ c.loop-k-test.true)
+index-i-requires-else-c-n c = subst Stands (sym c.word-else-c-n.ensures) (stands (goal.at.index-i-requires-else-c-n c).In-loop-k _ c.loop-k-test.true)
 
 pub expand-g-requires : goal.expand-g-requires
-expand-g-requires c =     let x = exploring (goal.at.expand-g-requires c).In-loop-k in
+expand-g-requires c = let x = exploring (goal.at.expand-g-requires c).In-loop-k in
     let stored = c.loop-k-test.true in
     record { table = c.requires.table; search_ready = x.ready; i_lt_count = stored; fan_fits = fine (goal.at.expand-g-requires c).In-loop-k (expanding (goal.at.expand-g-requires c).Else-c-n) _ (pick-2 (goal.at.expand-g-requires c).After-index-i-else-c-n); i_bound = entry-near c.requires.exploring.0.fit x stored (expanding (goal.at.expand-g-requires c).Else-c-n) }
 
 pub returns-in_default-g : goal.returns-in_default-g
 unfolding SearchedIs
-returns-in_default-g c =     full (goal.at.returns-in_default-g c).In-loop-k (expanding (goal.at.returns-in_default-g c).Else-c-n) _ (pick-2 (goal.at.returns-in_default-g c).After-index-i-else-c-n) _ _ c.expand-g.ensures c.in_default-g.is
+returns-in_default-g c = full (goal.at.returns-in_default-g c).In-loop-k (expanding (goal.at.returns-in_default-g c).Else-c-n) _ (pick-2 (goal.at.returns-in_default-g c).After-index-i-else-c-n) _ _ c.expand-g.ensures c.in_default-g.is
 
 pub overflow_add-k : goal.overflow_add-k
-overflow_add-k c =     let x = exploring (goal.at.overflow_add-k c).In-loop-k in
+overflow_add-k c = let x = exploring (goal.at.overflow_add-k c).In-loop-k in
     record { fits = omega (arith, x.ready.filled.index.within, x.ready.filled.index.few, c.loop-k-test.true) }
 
 pub loop-k-smaller : goal.loop-k-smaller
-loop-k-smaller c =     let x = exploring (goal.at.loop-k-smaller c).In-loop-k in
+loop-k-smaller c = let x = exploring (goal.at.loop-k-smaller c).In-loop-k in
     omega (arith, x.ready.filled.index.within, settled-within x, c.loop-k-test.true)
 
 pub loop-k-preserved : goal.loop-k-preserved
-loop-k-preserved c =     again (goal.at.loop-k-preserved c).In-loop-k (expanding (goal.at.loop-k-preserved c).Else-c-n) _ (pick-2 (goal.at.loop-k-preserved c).After-index-i-else-c-n) _ _ c.expand-g.ensures c.in-To-g.is c.expand-g.auto.0 (omega arith) (omega arith)
+loop-k-preserved c = again (goal.at.loop-k-preserved c).In-loop-k (expanding (goal.at.loop-k-preserved c).Else-c-n) _ (pick-2 (goal.at.loop-k-preserved c).After-index-i-else-c-n) _ _ c.expand-g.ensures c.in-To-g.is c.expand-g.auto.cells (omega arith) (omega arith)
 
 pub returns : goal.returns
 unfolding SearchedIs

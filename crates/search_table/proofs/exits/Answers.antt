@@ -1,22 +1,19 @@
 -- `exits` meets its contract: both columns list what the entries before k take (proofs/PassInvariant.antt).
-use mathlib.Core.Path.{◌≡◌, refl, sym, ap, ◌∙◌, subst}
+use mathlib.Core.Path.{refl, sym, ap, ◌∙◌, subst}
 use mathlib.Core.List.{List}
-use Prim.Native.Nat.{ℕ, ◌+◌, ◌-◌, ◌<◌, ◌≤◌}
+use Prim.Native.Nat.{ℕ, ◌+◌, ◌<◌, ◌≤◌}
 use native.Mathlib.Omega.{arith}
 use borrow.Author.Rules.{rules}
-use Rattle.model.specs.Machine.{Exit, p_exit, m_exit}
-use lib.ListN.{length, get_or}
+use Rattle.model.specs.Machine.{p_exit, m_exit}
+use lib.ListN.{length}
 use Rattle.configuration.specs.Inner.Place.{at_of}
-use Rattle.configuration.specs.declared.Op.{Op}
 use Rattle.cells.proofs.Fields.{length-word-column}
 use Rattle.search_table.specs.Inner.Passes.{Stands, Walkable}
 use Rattle.cells.specs.Inner.Columns.{place_field, pattern_field, distance_field, column, word_column}
-use Rattle.search_table.proofs.PassInvariant.{either, exit-words, Filling, filling_start, none_left, filling_more, filling_same, filling_end}
-use Rattle.search_table.proofs.exits.Goals.{After-unlisted, In-loop-k, Joined-unlisted}
+use Rattle.search_table.proofs.PassInvariant.{exit-words, Filling, filling_start, none_left, filling_more, filling_same, filling_end}
+use Rattle.search_table.proofs.exits.Goals.{In-loop-k, Joined-unlisted, then-unlisted, else-unlisted}
+use Rattle.search_table.proofs.exits.Invariants.{Listing}
 use Rattle.search_table.proofs.exits.Goals as goal
-
-abbrev Listing : (cells : List (List ℕ)) (w : ℕ) (ops : List Op) → Exit → (k : ℕ) → List ℕ → Type 0
-Listing cells w = Filling w (word_column place_field cells) (word_column pattern_field cells) (column distance_field cells)
 
 pub loop-k-init : goal.loop-k-init
 loop-k-init c = (search rules, filling_start, filling_start)
@@ -28,48 +25,49 @@ there c w = omega (arith, w.place_room, length-word-column place_field c)
 stored : (c : In-loop-k) → c.loop-k.k < length c.args.cells.now
 stored c = omega (arith, c.loop-k-test.true, there _ c.requires.walkable)
 
--- the entry stands at the instruction
-stands : (c : After-unlisted) →  at_of (get_or (word_column place_field c.args.cells.now) c.loop-k.k 0) ≡ c.index-i.result + 1
-stands c = sym (ap at_of c.word.ensures) ∙ c.index-i.ensures.0
-
 -- ---- the needs
 pub word-requires : goal.word-requires
 word-requires c = (stored (goal.at.word-requires c).In-loop-k, omega arith)
 
 pub index-i-requires : goal.index-i-requires
-index-i-requires c =     subst Stands (sym c.word.ensures) (c.requires.walkable.stands _ c.loop-k-test.true)
+index-i-requires c = subst Stands (sym c.word.ensures) (c.requires.walkable.stands _ c.loop-k-test.true)
 
 pub get-d-requires : goal.get-d-requires
 get-d-requires c = (stored (goal.at.get-d-requires c).In-loop-k, omega arith)
 
 pub overflow_add-d : goal.overflow_add-d
-overflow_add-d c =     let walk = c.requires.walkable in
+overflow_add-d c = let walk = c.requires.walkable in
     omega (arith, c.get-d.ensures, walk.few, walk.near c.loop-k.k c.loop-k-test.true, c.loop-k-test.true)
 
 pub words_at-requires : goal.words_at-requires
 words_at-requires c = stored (goal.at.words_at-requires c).In-loop-k
 
 -- both columns, with the entry
-filled : (c : Joined-unlisted) →  let a = c.args in let k = c.loop-k.k + 1 in Listing a.cells.now a.w a.t4 p_exit k c.if-unlisted.p × Listing a.cells.now a.w a.t4 m_exit k c.if-unlisted.m
+filled : (c : Joined-unlisted) → let a = c.args in
+    let k = c.loop-k.k + 1 in
+    Listing a.cells.now a.w a.ops p_exit k c.if-unlisted.p × Listing a.cells.now a.w a.ops m_exit k c.if-unlisted.m
 filled c =
     let inv = c.loop-k.invariant in
     let i = c.index-i.ensures.1 in
-    either
-    (λ t. (
-      subst (Filling _ _ _ _ _ p_exit _) (sym t.4) (filling_more inv.1 _ _ _ _ i (stands c.before) (exit-words _ _ _ refl t.2.ensures) t.3.ensures.0 (omega (arith, t.1.ensures))),
-      subst (Filling _ _ _ _ _ m_exit _) (sym t.5) (filling_more inv.2 _ _ _ _ i (stands c.before) (exit-words _ _ _ refl t.2.ensures) t.3.ensures.1 (omega (arith, t.1.ensures))),
-    ))
-    (λ t.
-    let kept = none_left c.args.w _ _ _ _ _ (sym c.unlisted.ensures ∙ t.0.left) in (
-      subst (Filling _ _ _ _ _ p_exit _) (sym t.1) (filling_same inv.1 _ _ _ _ i (stands c.before) refl kept.0 refl refl),
-      subst (Filling _ _ _ _ _ m_exit _) (sym t.2) (filling_same inv.2 _ _ _ _ i (stands c.before) refl kept.1 refl refl),
-    ))
-    c.if-unlisted.branch
+    let at = sym (ap at_of c.word.ensures) ∙ c.index-i.ensures.0 in
+    elim c.if-unlisted.branch [
+      | then-unlisted w ↦ (
+        subst (Filling _ _ _ _ _ p_exit _) (sym w.p-is)
+            (filling_more inv.1 _ _ _ _ i at (exit-words _ _ _ refl w.words_at.ensures) w.list_exits-listed.ensures.0 (omega (arith, w.get-d.ensures))),
+        subst (Filling _ _ _ _ _ m_exit _) (sym w.m-is)
+            (filling_more inv.2 _ _ _ _ i at (exit-words _ _ _ refl w.words_at.ensures) w.list_exits-listed.ensures.1 (omega (arith, w.get-d.ensures))),
+      )
+      | else-unlisted w ↦
+          let kept = none_left c.args.w _ _ _ _ _ (sym c.unlisted.ensures ∙ w.if-unlisted.false) in (
+            subst (Filling _ _ _ _ _ p_exit _) (sym w.p-is) (filling_same inv.1 _ _ _ _ i at refl kept.0 refl refl),
+            subst (Filling _ _ _ _ _ m_exit _) (sym w.m-is) (filling_same inv.2 _ _ _ _ i at refl kept.1 refl refl),
+          )
+    ]
 
 pub loop-k-preserved : goal.loop-k-preserved
-loop-k-preserved c = (search rules, (filled (goal.at.loop-k-preserved c).Joined-unlisted).0, (filled (goal.at.loop-k-preserved c).Joined-unlisted).1)
+loop-k-preserved c = (search rules, (filled c).0, (filled c).1)
 
 pub returns : goal.returns
-returns c =     let i = c.loop-k.invariant in
+returns c = let i = c.loop-k.invariant in
     let end = c.loop-k-test.false in
     record { p = filling_end i.1 (omega (arith, i.0, end)); m = filling_end i.2 (omega (arith, i.0, end)) }

@@ -1,5 +1,4 @@
 -- `nearest` meets its contract: no entry before k takes the exit; the first that does ends the loop.
-use Prim.Native.Nat.{◌-◌}
 use native.Mathlib.Omega.{arith}
 use borrow.Author.Rules.{rules}
 use Rattle.graph.proofs.Wanted.{none-at-start}
@@ -15,12 +14,12 @@ words_at-x-requires c = omega (arith, c.loop-k-test.true, c.requires.n_in_bounds
 
 pub returns-then-takes : goal.returns-then-takes
 unfolding takes_at
-returns-then-takes c =     let a = c.args in
+returns-then-takes c = let a = c.args in
     first_found c.loop-k-test.true c.loop-k.invariant.1 (takes-words _ a.instruction _ _ c.takes.ensures c.words_at-x.ensures) c.if-takes.true
 
 pub loop-k-preserved : goal.loop-k-preserved
 unfolding takes_at
-loop-k-preserved c =     let l = c.loop-k in
+loop-k-preserved c = let l = c.loop-k in
     let a = c.args in
     (search rules, none_past l.k l.invariant.1 (takes-words _ a.instruction _ _ c.takes.ensures c.words_at-x.ensures) c.if-takes.false)
 

@@ -1,6 +1,6 @@
 -- `reads` meets its contract: the counts are those of the steps passed (proofs/Reading.antt).
 use mathlib.Core.Path.{◌≡◌, sym, ap, ◌∙◌, subst}
-use Prim.Native.Nat.{ℕ, ◌+◌, ◌-◌}
+use Prim.Native.Nat.{ℕ, ◌+◌}
 use native.Mathlib.Omega.{arith}
 use borrow.Author.Rules.{rules}
 use mathlib.Core.List.{List}
@@ -18,32 +18,36 @@ pub loop-t-init : goal.loop-t-init
 loop-t-init c = (search rules, reads-start _ _ _)
 
 pub place_on-requires : goal.place_on-requires
-place_on-requires c =     on_way _ c.requires c.loop-t.t (omega (arith, c.loop-t-test.true))
+place_on-requires c =
+    let h = on_way _ c.requires c.loop-t.t (omega (arith, c.loop-t-test.true)) in
+    record { t_in_bounds = h.0; t_in_bounds_2 = h.1 }
 
 pub index-i-requires : goal.index-i-requires
-index-i-requires c =     subst Stands (sym c.place_on.ensures) (c.requires.stands _ (omega (arith, c.loop-t-test.true)))
+index-i-requires c = subst Stands (sym c.place_on.ensures) (c.requires.stands _ (omega (arith, c.loop-t-test.true)))
 
 pub place_on-requires-in-loop-t : goal.place_on-requires-in-loop-t
-place_on-requires-in-loop-t c =     on_way _ c.requires (c.loop-t.t + 1) (omega (arith, c.loop-t-test.true))
+place_on-requires-in-loop-t c =
+    let h = on_way _ c.requires (c.loop-t.t + 1) (omega (arith, c.loop-t-test.true)) in
+    record { t_in_bounds = h.0; t_in_bounds_2 = h.1 }
 
 pub counted-more-requires : goal.counted-more-requires
-counted-more-requires c a =     let l = c.loop-t in
-    let e = ap (λ (r : List ℕ). get_or r a 0) l.inv.1 in
-    omega (arith, e, reads-few c.args.t2 (word_column place_field c.args.cells.now) (column way_field c.args.cells.now) l.t a, l.inv.0, c.requires.few)
+counted-more-requires c a = let l = c.loop-t in
+    let e = ap (λ (r : List ℕ). get_or r a 0) l.invariant.1 in
+    omega (arith, e, reads-few c.args.ops (word_column place_field c.args.cells.now) (column way_field c.args.cells.now) l.t a, l.invariant.0, c.requires.few)
 
 pub loop-t-preserved : goal.loop-t-preserved
-loop-t-preserved c =     let s = c.args in
+loop-t-preserved c = let s = c.args in
     let l = c.loop-t in
     let i = c.index-i in
     let next = c.place_on-in-loop-t.ensures in
-    let ended = c.ended-ended.ensures ∙ ap (λ ((goal.at.loop-t-preserved c).After-op-1 : ℕ). ended_of (goal.at.loop-t-preserved c).After-op-1 (get_or s.t2 i.result blank).tape) next in (
+    let ended = c.ended-ended.ensures ∙ ap (λ (p : ℕ). ended_of p (get_or s.ops i.result blank).tape) next in (
       search rules,
-      reads_more s.t2 (word_column place_field s.cells.now) (column way_field s.cells.now) l.t i.result l.counts _ _ l.inv.1
+      reads_more s.ops (word_column place_field s.cells.now) (column way_field s.cells.now) l.t i.result l.counts _ _ l.invariant.1
           (ap at_of (sym c.place_on.ensures) ∙ i.ensures.0) ended c.counted-more.ensures,
     )
 
 pub returns : goal.returns
-returns c =     let s = c.args in
+returns c = let s = c.args in
     let l = c.loop-t in
     let e : l.t ≡ s.last = omega (arith, l.invariant.0, c.loop-t-test.false) in
-    l.invariant.1 ∙ ap (reads_on s.t2 (word_column place_field s.cells.now) (column way_field s.cells.now)) e
+    l.invariant.1 ∙ ap (reads_on s.ops (word_column place_field s.cells.now) (column way_field s.cells.now)) e

@@ -5,7 +5,7 @@ use Rattle.search_visit.proofs.Fanning.{opens_by_lem}
 use Rattle.search_visit.proofs.opens.Goals as goal
 
 pub returns-in-Read : goal.returns-in-Read
-returns-in-Read c =     opens_by_lem _ _ _ _ c.in-Read.is (ap not c.ended.ensures)
+returns-in-Read c = opens_by_lem _ _ _ _ c.in-Read.is (ap not c.ended.ensures)
 
 pub returns-in-Assign : goal.returns-in-Assign
 returns-in-Assign c = opens_by_lem _ _ _ _ c.in-Assign.is refl

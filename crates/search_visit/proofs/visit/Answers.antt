@@ -11,12 +11,12 @@ use Rattle.search_visit.proofs.visit.Goals as goal
 
 pub returns-then-size-n : goal.returns-then-size-n
 unfolding VisitedIs FreshIs grown_of
-returns-then-size-n c =     record { visited_in = visit_full c.requires.filled_in _ c.find-f.ensures c.in-Nothing.is (omega (arith, c.if-size-n.true)); fresh_in = fresh-none _ _ }
+returns-then-size-n c = record { visited_in = visit_full c.requires.filled_in _ c.find-f.ensures c.in-Nothing.is (omega (arith, c.if-size-n.true)); fresh_in = fresh-none _ _ }
 
 pub returns-in-At : goal.returns-in-At
 unfolding VisitedIs FreshIs grown_of
-returns-in-At c =     record { visited_in = visit_found c.requires.filled_in _ c.find-f.ensures c.in-At.is; fresh_in = fresh-none _ _ }
+returns-in-At c = record { visited_in = visit_found c.requires.filled_in _ c.find-f.ensures c.in-At.is; fresh_in = fresh-none _ _ }
 
 pub returns-else-size-n : goal.returns-else-size-n
 unfolding VisitedIs FreshIs grown_of
-returns-else-size-n c =     let more = c.add.ensures in record { visited_in = visit_new c.requires.filled_in _ c.find-f.ensures c.in-Nothing.is (omega (arith, c.if-size-n.false)) more.0 more.1.0; fresh_in = fresh-one _ _ _ more.1.1 (omega (arith, filled-room _ c.requires.filled_in, length-column marks_field c.args.cells.now, c.if-size-n.false)) }
+returns-else-size-n c = let more = c.add.ensures in record { visited_in = visit_new c.requires.filled_in _ c.find-f.ensures c.in-Nothing.is (omega (arith, c.if-size-n.false)) more.added more.filled_in_2; fresh_in = fresh-one _ _ _ more.cells_after (omega (arith, filled-room _ c.requires.filled_in, length-column marks_field c.args.cells.now, c.if-size-n.false)) }
