@@ -4,27 +4,23 @@
 
 use flow::Flow;
 use input::Input;
-use libc::{STDERR_FILENO, STDIN_FILENO, STDOUT_FILENO};
 
-fn print_report(text: &[u8]) {
+fn print_report(rt: &(impl Print + Eprint), text: &[u8]) {
     let mut lines = [0u8; render::REPORT_BYTES];
     let size = render::report_of(text, &mut lines);
-    if !io::write_all(STDOUT_FILENO, &lines[0..size]) {
-        io::write_all(
-            STDERR_FILENO,
-            b"report: standard output cannot be written\n",
-        );
+    if rt.write_all(&lines[0..size]).is_err() {
+        let _ = rt.eprintln("report: standard output cannot be written");
     }
 }
 
 // One byte more than a flow may have, so that a longer text is seen to be too long.
-fn main() {
+fn main(rt: HostRuntime) {
     let mut text = [0u8; Flow::MAX_BYTES + 1];
-    let input = input::read_all(STDIN_FILENO, &mut text);
+    let input = input::read_all(&mut rt.stdin(), &mut text);
     match input {
-        Input::Bytes(n) => print_report(&text[0..n]),
+        Input::Bytes(n) => print_report(&rt, &text[0..n]),
         Input::Failed => {
-            io::write_all(STDERR_FILENO, b"report: standard input cannot be read\n");
+            let _ = rt.eprintln("report: standard input cannot be read");
         }
     }
 }

@@ -4,7 +4,7 @@
 // ranks of a row are theirs, and the others are 0. A rank is held as a digit, four more than the rank.
 #![tactic(auto)]
 
-use libc::STDOUT_FILENO;
+use std::io;
 
 const VARIABLES: usize = 4;
 
@@ -15,12 +15,12 @@ const DIGITS: u64 = 9;
 
 const ROWS: u64 = 6561;
 
-fn print(bytes: &[u8]) {
-    io::write_all(STDOUT_FILENO, bytes);
+fn print(rt: &impl Print, text: &str) -> io::Result<()> {
+    rt.print(text)
 }
 
-fn print_number(n: u64) {
-    io::print_decimal(STDOUT_FILENO, n);
+fn print_number(rt: &impl Print, n: u64) -> io::Result<()> {
+    rt.print(n)
 }
 
 // The row with number n, counted from 0: n written to the base 9.
@@ -69,71 +69,77 @@ fn is_pattern(row: [u64; VARIABLES], v: u64) -> bool {
 }
 
 // A rank, with the separator before it if it is not the first of its table. Rank 0 is not printed.
-fn print_rank(d: u64, first: bool, separator: &[u8]) {
+fn print_rank(rt: &impl Print, d: u64, first: bool, separator: &str) -> io::Result<()> {
     if d == ZERO {
-        return;
+        return Ok(());
     }
     if !first {
-        print(separator);
+        print(rt, separator)?;
     }
     if d < ZERO {
-        print(b"-");
-        print_number(ZERO - d);
-        return;
+        print(rt, "-")?;
+        return print_number(rt, ZERO - d);
     }
-    print_number(d - ZERO);
+    print_number(rt, d - ZERO)
 }
 
-fn print_pattern(row: [u64; VARIABLES], first: bool, separator: &[u8]) {
-    print_rank(row[0], first, separator);
-    print_rank(row[1], false, separator);
-    print_rank(row[2], false, separator);
-    print_rank(row[3], false, separator);
+fn print_pattern(
+    rt: &impl Print,
+    row: [u64; VARIABLES],
+    first: bool,
+    separator: &str,
+) -> io::Result<()> {
+    print_rank(rt, row[0], first, separator)?;
+    print_rank(rt, row[1], false, separator)?;
+    print_rank(rt, row[2], false, separator)?;
+    print_rank(rt, row[3], false, separator)
 }
 
-fn print_patterns(v: u64, separator: &[u8]) {
+fn print_patterns(rt: &impl Print, v: u64, separator: &str) -> io::Result<()> {
     let mut first = true;
     let mut n = 0;
     while n < ROWS {
         let row = row_at(n);
         if is_pattern(row, v) {
-            print_pattern(row, first, separator);
+            print_pattern(rt, row, first, separator)?;
             first = false;
         }
         n += 1;
     }
+    Ok(())
 }
 
-fn print_head(name: &[u8], size: u64) {
-    print(b"\npub const ");
-    print(name);
-    print(b": [i8; ");
-    print_number(size);
-    print(b"] = [");
+fn print_head(rt: &impl Print, name: &str, size: u64) -> io::Result<()> {
+    print(rt, "\npub const ")?;
+    print(rt, name)?;
+    print(rt, ": [i8; ")?;
+    print_number(rt, size)?;
+    print(rt, "] = [")
 }
 
 // A table in one line.
-fn print_short(name: &[u8], size: u64, v: u64) {
-    print_head(name, size);
-    print_patterns(v, b", ");
-    print(b"];\n");
+fn print_short(rt: &impl Print, name: &str, size: u64, v: u64) -> io::Result<()> {
+    print_head(rt, name, size)?;
+    print_patterns(rt, v, ", ")?;
+    print(rt, "];\n")
 }
 
 // A table with a line for each rank.
-fn print_long(name: &[u8], size: u64, v: u64) {
-    print_head(name, size);
-    print(b"\n    ");
-    print_patterns(v, b",\n    ");
-    print(b",\n];\n");
+fn print_long(rt: &impl Print, name: &str, size: u64, v: u64) -> io::Result<()> {
+    print_head(rt, name, size)?;
+    print(rt, "\n    ")?;
+    print_patterns(rt, v, ",\n    ")?;
+    print(rt, ",\n];\n")
 }
 
-fn main() {
+fn main(rt: HostRuntime) -> io::Result<()> {
     print(
-        b"// The outside patterns of one to four variables, entry after entry, a signed rank for each variable.\n",
-    );
-    print(b"// The program `tables` prints this file.\n");
-    print_short(b"ONE", 2, 1);
-    print_short(b"TWO", 16, 2);
-    print_long(b"THREE", 132, 3);
-    print_long(b"FOUR", 1232, 4);
+        &rt,
+        "// The outside patterns of one to four variables, entry after entry, a signed rank for each variable.\n",
+    )?;
+    print(&rt, "// The program `tables` prints this file.\n")?;
+    print_short(&rt, "ONE", 2, 1)?;
+    print_short(&rt, "TWO", 16, 2)?;
+    print_long(&rt, "THREE", 132, 3)?;
+    print_long(&rt, "FOUR", 1232, 4)
 }

@@ -4,127 +4,139 @@
 // The texts, and the answers in stdout, are made by tests/readings.py.
 #![tactic(auto)]
 
+ghost use Rattle.input.specs.Input.{WithinBuffer};
+
 use flow::{Answer, Flow, Instruction, Kind, Refusal, lent, words};
 use input::Input;
-use libc::STDOUT_FILENO;
+use std::rt::Files;
+use std::{fs, io, str};
 
-fn print(bytes: &[u8]) {
-    io::write_all(STDOUT_FILENO, bytes);
+fn print(rt: &impl Print, bytes: &[u8]) -> io::Result<()> {
+    rt.write_all(bytes)
 }
 
 // A field: a comma, and a word, a number, or one that may have a minus.
-fn print_word(word: &[u8]) {
-    print(b",");
-    print(word);
+fn print_word(rt: &impl Print, word: &[u8]) -> io::Result<()> {
+    print(rt, b",")?;
+    print(rt, word)
 }
 
-fn print_number(n: u64) {
-    print(b",");
-    io::print_decimal(STDOUT_FILENO, n);
+fn print_number(rt: &impl Print, n: u64) -> io::Result<()> {
+    print(rt, b",")?;
+    rt.print(n)
 }
 
-fn print_signed(c: i32) {
-    if c < 0 {
-        print(b",-");
-        io::print_decimal(STDOUT_FILENO, (-1 - c) as u64 + 1);
-        return;
-    }
-    print_number(c as u64);
+fn print_signed(rt: &impl Print, c: i32) -> io::Result<()> {
+    print(rt, b",")?;
+    rt.print(c)
 }
 
 // The word of a kind.
-fn print_kind(kind: Kind) {
+fn print_kind(rt: &impl Print, kind: Kind) -> io::Result<()> {
     match kind {
-        Kind::Read => print_word(b"read"),
-        Kind::Put => print_word(b"put"),
-        Kind::Copy => print_word(b"copy"),
-        Kind::Set => print_word(b"set"),
-        Kind::Less => print_word(b"less"),
-        Kind::Over => print_word(b"over"),
-        Kind::Under => print_word(b"under"),
-        Kind::Nop => print_word(b"nop"),
-        Kind::Stop => print_word(b"stop"),
+        Kind::Read => print_word(rt, b"read"),
+        Kind::Put => print_word(rt, b"put"),
+        Kind::Copy => print_word(rt, b"copy"),
+        Kind::Set => print_word(rt, b"set"),
+        Kind::Less => print_word(rt, b"less"),
+        Kind::Over => print_word(rt, b"over"),
+        Kind::Under => print_word(rt, b"under"),
+        Kind::Nop => print_word(rt, b"nop"),
+        Kind::Stop => print_word(rt, b"stop"),
     }
 }
 
 // The fields of an instruction after its number.
-fn print_instruction(x: Instruction) {
+fn print_instruction(rt: &impl Print, x: Instruction) -> io::Result<()> {
     let kind = x.kind;
-    print_kind(kind);
+    print_kind(rt, kind)?;
     for k in 0..words::width(kind) {
-        print_signed(x.number(k));
+        print_signed(rt, x.number(k))?;
     }
+    Ok(())
 }
 
-fn print_refusal(r: Refusal) {
-    print(b" refused");
-    print_number(r.number() as u64);
-    print_number(r.place() as u64);
-    print(b"\n");
+fn print_refusal(rt: &impl Print, r: Refusal) -> io::Result<()> {
+    print(rt, b" refused")?;
+    print_number(rt, r.number() as u64)?;
+    print_number(rt, r.place() as u64)?;
+    print(rt, b"\n")
 }
 
-fn print_head(tapes: u8, outputs: u8, variables: u8) {
-    print(b" flow");
-    print_number(tapes as u64);
-    print_number(outputs as u64);
-    print_number(variables as u64);
-    print(b"\n");
+fn print_head(rt: &impl Print, tapes: u8, outputs: u8, variables: u8) -> io::Result<()> {
+    print(rt, b" flow")?;
+    print_number(rt, tapes as u64)?;
+    print_number(rt, outputs as u64)?;
+    print_number(rt, variables as u64)?;
+    print(rt, b"\n")
 }
 
-fn print_line(i: usize, x: Instruction) {
-    io::print_decimal(STDOUT_FILENO, i as u64);
-    print_instruction(x);
-    print(b"\n");
+fn print_line(rt: &impl Print, i: usize, x: Instruction) -> io::Result<()> {
+    rt.print(i)?;
+    print_instruction(rt, x)?;
+    print(rt, b"\n")
 }
 
-fn print_flow(f: Flow) {
-    print_head(f.tapes, f.outputs, f.variables);
+fn print_flow(rt: &impl Print, f: Flow) -> io::Result<()> {
+    print_head(rt, f.tapes, f.outputs, f.variables)?;
     for i in 0..Flow::MAX_INSTRUCTIONS {
         if i < f.count {
             let instructions = f.instructions;
             let x = lent::row_at(instructions, i);
-            print_line(i + 1, x);
+            print_line(rt, i + 1, x)?;
         }
     }
+    Ok(())
 }
 
 // What a text is read as.
-fn print_reading(text: &[u8]) {
+fn print_reading(rt: &impl Print, text: &[u8]) -> io::Result<()> {
     let reading = reader::read(text);
     let answer = reading.answer;
     match answer {
-        Answer::Legal => print_flow(reading.flow),
-        Answer::Refused(r) => print_refusal(r),
+        Answer::Legal => print_flow(rt, reading.flow),
+        Answer::Refused(r) => print_refusal(rt, r),
+    }
+}
+
+// The bytes of a file. One that cannot be opened, or whose name is no text, cannot be read.
+fn read_file(rt: &impl Files, name: &[u8], buf: &mut [u8]) -> Input
+    ensures { WithinBuffer result buf.new }
+{
+    let Ok(path) = str::from_utf8(name) else {
+        return Input::Failed;
+    };
+    match fs::open(rt, path) {
+        Ok(mut file) => input::read_all(&mut file, buf),
+        Err(_) => Input::Failed,
     }
 }
 
 // What the text of a file is read as; a byte past the limit is enough to see that there are too many.
-fn print_file(name: &[u8]) {
+fn print_file(rt: &(impl Files + Print), name: &[u8]) -> io::Result<()> {
     let mut text = [0u8; Flow::MAX_BYTES + 1];
-    print(name);
-    let fd = os::open_read(name);
-    let input = input::read_all(fd, &mut text);
-    libc::close(fd);
-    match input {
-        Input::Bytes(n) => print_reading(&text[0..n]),
-        Input::Failed => print(b" cannot be read\n"),
+    print(rt, name)?;
+    match read_file(rt, name, &mut text) {
+        Input::Bytes(n) => print_reading(rt, &text[0..n]),
+        Input::Failed => print(rt, b" cannot be read\n"),
     }
 }
 
 // The readings of the files that a list names, a name to a line.
-fn print_readings(list: &[u8]) {
+fn print_readings(rt: &(impl Files + Print), list: &[u8]) -> io::Result<()> {
     let mut at = 0;
     while at < list.len() {
         let end = text::end_of(list, at, b'\n');
-        print_file(&list[at..end]);
+        print_file(rt, &list[at..end])?;
         at = end + 1;
     }
+    Ok(())
 }
 
-fn main() {
-    let mut list = io::large_buffer();
-    let fd = os::open_read(b"index");
-    let n = io::read_full(fd, &mut list);
-    libc::close(fd);
-    print_readings(&list[..n]);
+fn main(rt: HostRuntime) -> io::Result<()> {
+    let mut list = [0u8; 65536];
+    match read_file(&rt, b"index", &mut list) {
+        Input::Bytes(n) => print_readings(&rt, &list[..n]),
+        Input::Failed => Err(io::Error::other("the list of the files cannot be read")),
+    }
 }

@@ -8,6 +8,9 @@ ghost use Rattle.std.specs.Prelude.{◌<◌};
 ghost use Rattle.flow.specs.Limits.{max_instructions};
 
 use flow::{Flow, Instruction, Kind};
+use input::Input;
+use std::rt::Files;
+use std::{fs, io};
 use tape_maker::{Cell, RunAnswer, SampleAnswer, SampleEnd};
 
 // The cells of the record row before a sample is asked for; no record of a sample is so large.
@@ -184,17 +187,24 @@ fn holds_tapes(
     idle & holds(text, f, i, p, d, row, &lengths[0..t])
 }
 
-fn print_end(p: bool, yes: &[u8], no: &[u8]) {
+fn print_end(rt: &impl Print, p: bool, yes: &[u8], no: &[u8]) -> io::Result<()> {
     if p {
-        test_show::print(yes);
+        test_show::print(rt, yes)?;
     } else {
-        test_show::print(no);
+        test_show::print(rt, no)?;
     }
-    test_show::print(b"\n");
+    test_show::print(rt, b"\n")
 }
 
 // The line of an exit of instruction i + 1; no line where the instruction has no two exits.
-fn print_sample(text: &[u8], f: Flow, i: usize, p: bool, wide: bool)
+fn print_sample(
+    rt: &impl Print,
+    text: &[u8],
+    f: Flow,
+    i: usize,
+    p: bool,
+    wide: bool,
+) -> io::Result<()>
     requires { i < max_instructions }
 {
     let mut row = [BLANK; CELLS];
@@ -204,67 +214,72 @@ fn print_sample(text: &[u8], f: Flow, i: usize, p: bool, wide: bool)
         SampleEnd::Taken => {
             let d = a.distance;
             let lengths = a.lengths;
-            test_show::exit(i + 1, p);
-            test_show::field(d as u64);
+            test_show::exit(rt, i + 1, p)?;
+            test_show::field(rt, d as u64)?;
             let taken = holds_tapes(text, f, i, p, d as u64, &row, &lengths, a.tapes);
-            print_end(taken, b",taken", b",not taken");
+            print_end(rt, taken, b",taken", b",not taken")
         }
         SampleEnd::Never => {
-            test_show::exit(i + 1, p);
+            test_show::exit(rt, i + 1, p)?;
             print_end(
+                rt,
                 blank_from(&row, 0),
                 b",none",
                 b",none, and the row is changed",
-            );
+            )
         }
         SampleEnd::Refused(why) => {
-            if why.number() != 11 {
-                test_show::exit(i + 1, p);
-                test_show::print(b",");
-                test_show::refusal(why);
-                print_end(blank_from(&row, 0), b"", b", and the row is changed");
+            if why.number() == 11 {
+                return Ok(());
             }
+            test_show::exit(rt, i + 1, p)?;
+            test_show::print(rt, b",")?;
+            test_show::refusal(rt, why)?;
+            print_end(rt, blank_from(&row, 0), b"", b", and the row is changed")
         }
     }
 }
 
-fn print_samples(text: &[u8], wide: bool) {
+fn print_samples(rt: &impl Print, text: &[u8], wide: bool) -> io::Result<()> {
     let reading = reader::read(text);
     let f = reading.flow;
     let mut i = 0;
     while i < Flow::MAX_INSTRUCTIONS {
         if i < f.count {
-            print_sample(text, f, i, true, wide);
-            print_sample(text, f, i, false, wide);
+            print_sample(rt, text, f, i, true, wide)?;
+            print_sample(rt, text, f, i, false, wide)?;
         }
         i += 1;
     }
+    Ok(())
 }
 
 // The samples of the flows of a file.
-fn print_flows(file: &[u8], wide: bool) {
+fn print_flows(rt: &impl Print, file: &[u8], wide: bool) -> io::Result<()> {
     let mut at = 0;
     while at < file.len() {
         let case = test_cases::next(file, at);
         let named = case.named;
         let start = case.start;
         let end = case.end;
-        test_show::print(&file[at..named]);
-        test_show::print(b"\n");
-        print_samples(&file[start..end], wide);
+        test_show::print(rt, &file[at..named])?;
+        test_show::print(rt, b"\n")?;
+        print_samples(rt, &file[start..end], wide)?;
         at = end + 1;
+    }
+    Ok(())
+}
+
+fn print_file(rt: &(impl Files + Print), name: &str, wide: bool) -> io::Result<()> {
+    let mut buf = [0u8; 131072];
+    let mut file = fs::open(rt, name)?;
+    match input::read_all(&mut file, &mut buf) {
+        Input::Bytes(n) => print_flows(rt, &buf[..n], wide),
+        Input::Failed => Err(io::Error::other("a file of flows cannot be read")),
     }
 }
 
-fn print_file(name: &[u8], wide: bool) {
-    let mut file = [0u8; 131072];
-    let fd = os::open_read(name);
-    let n = io::read_full(fd, &mut file);
-    libc::close(fd);
-    print_flows(&file[..n], wide);
-}
-
-fn main() {
-    print_file(b"flows", false);
-    print_file(b"wide", true);
+fn main(rt: HostRuntime) -> io::Result<()> {
+    print_file(&rt, "flows", false)?;
+    print_file(&rt, "wide", true)
 }

@@ -39,16 +39,16 @@ pub overflow_sub-c : goal.overflow_sub-c
 overflow_sub-c c = neg_fits c.args.c c.ranges.c c.if-c-lt0.true
 
 pub overflow_cast-c : goal.overflow_cast-c
-overflow_cast-c c =     let z = c.args.c in
+overflow_cast-c c = let z = c.args.c in
     let f = c.ranges.c in
     rw (neg_read z f c.if-c-lt0.true) (tt, record { fits = omega (arith, size-bound z f) })
 
 pub overflow_add-c : goal.overflow_add-c
-overflow_add-c c =     let z = c.args.c in
+overflow_add-c c = let z = c.args.c in
     let f = c.ranges.c in
     rw (neg_read z f c.if-c-lt0.true) (record { fits = omega (arith, size-bound z f) })
 
 pub overflow_cast-c-2 : goal.overflow_cast-c-2
-overflow_cast-c-2 c =     let z = c.args.c in
+overflow_cast-c-2 c = let z = c.args.c in
     let f = c.ranges.c in
     rw (to_z-of_z f) (from_zero z (rw (to_z-of_z f) at c.if-c-lt0.false), record { fits = omega (arith, size-bound z f) })

@@ -8,5 +8,5 @@ either f g (inl a) = f a
 either f g (inr b) = g b
 
 pub loop-span-preserved : goal.loop-span-preserved
-loop-span-preserved c =     let i = c.loop-span.invariant in
+loop-span-preserved c = let i = c.loop-span.invariant in
     either (λ t. omega (arith, t.1, i)) (λ t. omega (arith, t.1, i)) c.if-times-eq0.branch
