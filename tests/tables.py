@@ -2,7 +2,8 @@
 """The constants of crates/outside_row/src/tables.rt, and what the program `tables` has to print.
 
 The outside patterns are listed here from documents 01 ("Distances and configurations") and 02 (T-06) alone, by the ranks of values; nothing
-comes from the crates. The numbers of the file have to be these lists in rising order, and crates/tables/stdout has to be the file, byte for byte.
+comes from the crates. The numbers of the file have to be these lists in rising order, and crates/tables/stdout has to be the file, but for its layout:
+`rt fmt` puts as many numbers on a line as it holds, and the program one.
 """
 import itertools
 import pathlib
@@ -57,6 +58,11 @@ def faults(name, size, numbers):
             return
 
 
+def laid_out(text):
+    """The text but for what `rt fmt` decides: blanks and line ends within a constant, and the comma after its last number."""
+    return re.sub(rb"\[([^\]]*)\]", lambda m: b"[" + re.sub(rb"\s+", b"", m[1]).rstrip(b",") + b"]", text)
+
+
 def main():
     source, printed = (ROOT / SOURCE).read_bytes(), (ROOT / PRINTED).read_bytes()
     text = re.sub("//.*", "", source.decode())
@@ -68,7 +74,7 @@ def main():
         for name, size, numbers in tables:
             told = faults(name, int(size), [int(number) for number in numbers.split(",") if number.strip()])
             wrong += [f"{SOURCE}: {fault}" for fault in told]
-    if printed != source:
+    if laid_out(printed) != laid_out(source):
         wrong.append(f"{PRINTED} and {SOURCE} differ: the program `tables` has to print that file")
     if wrong:
         print("\n".join(wrong))

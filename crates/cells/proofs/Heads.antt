@@ -7,7 +7,7 @@ use lib.ListN.{get_or}
 use Rattle.cells.specs.Inner.Columns.{place_field, pattern_field, head_field, bucket_field, column, word_column}
 use Rattle.cells.specs.Inner.Index.{node_at, bucket_of}
 use Rattle.cells.specs.Inner.Entries.{FilledIn, LatestIn}
-use Rattle.cells.proofs.Insertion.{head_of, head_void}
+use Rattle.cells.proofs.Insertion.{head_of_lem, head_void}
 
 module _ (c : List (List ℕ)) (count size b head h : ℕ) (f : FilledIn c count size) (read : head ≡ get_or (column head_field c) b 0) (is : h ≡ head) where
   abbrev bucket : ℕ → ℕ
@@ -23,7 +23,7 @@ module _ (c : List (List ℕ)) (count size b head h : ℕ) (f : FilledIn c count
   module _ (r : ℕ) (held : r ≡ get_or (column bucket_field c) (h - 1) 0) where
     pub head-counts : (h ≡ 0 → ⊥) → h ≤ count → r ≡ b → LatestIn c count size b head
     head-counts some within e =
-        rw read (head_of bucket _ _ count b f.index.chained (h - 1) (omega arith) (sym (f.bucket (h - 1) (omega arith)) ∙ sym held ∙ e))
+        rw read (head_of_lem bucket _ _ count b f.index.chained (h - 1) (omega arith) (sym (f.bucket (h - 1) (omega arith)) ∙ sym held ∙ e))
 
     pub head-other : (r ≡ b → ⊥) → LatestIn c count size b 0
     head-other n =

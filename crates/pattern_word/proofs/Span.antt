@@ -25,9 +25,9 @@ real-is lo x = omega (arith, add_is lo (negsuc 15), add_is (lo +ℤ negsuc 15) (
 pub real-offset : (c lo : ℤ) → T (le_z lo c) → real lo (low + offset c lo) ≡ c
 real-offset c lo h = omega (zarith, real-is lo (low + offset c lo), offset-is c lo h)
 
-pub span_of : (lo hi : ℤ) → Inside lo hi (pos 0) → offset hi lo < max_width → Span lo hi (width_of lo hi)
+pub span_of_lem : (lo hi : ℤ) → Inside lo hi (pos 0) → offset hi lo < max_width → Span lo hi (width_of lo hi)
 unfolding width_of offset
-span_of lo hi z h = record {
+span_of_lem lo hi z h = record {
   width = record { some = omega arith; few = omega arith };
   zero = z;
   edge = let k : T (le_z lo hi) = omega zarith in omega (arith, offset-is hi lo k);
