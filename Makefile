@@ -25,10 +25,10 @@ bound: program
 
 # The programs report and bound. Only what is proved is built, so the first time takes some minutes.
 program:
-	@tools/proving check report bound
+	@tools/proving run report bound
 
 lib:
-	@tools/proving staticlib tilsando
+	@tools/proving lib tilsando
 	@echo target/staticlib/libtilsando.a
 
 inputs: program examples
