@@ -160,7 +160,8 @@ fn last_read(row: &mut [i32], walk: Walk, op: Op, exit: bool, lo: i32, hi: i32)
 {
     let action = op.action;
     if search_table::is_read(action) {
-        if exit {
+        let last = exit;
+        if last {
             let mut wish = walk.values;
             let a = op.tape as usize;
             let v = op.variable as usize;
@@ -302,7 +303,8 @@ fn sample_at(
 {
     let d = cells::wide(cells::get(cells, k, Cell::DISTANCE));
     let steps = cells::depth(cells, n, k);
-    if row.len() <= d {
+    let short = row.len() <= d;
+    if short {
         return without(SampleEnd::Refused(Refusal::ShortRow));
     }
     cells::trace(cells, n, k, steps);

@@ -23,8 +23,8 @@ pub depth-steps-requires : goal.depth-steps-requires
 depth-steps-requires c = let t = c.requires.by_index.2 in
     record { parents = t.parents; at_lt_n = nearest_below t c.args.exit c.args.k c.requires.by_index.3 }
 
-pub returns-then-row-d : goal.returns-then-row-d
-returns-then-row-d c = λ flow i t h.
+pub returns-then-short : goal.returns-then-short
+returns-then-short c = λ flow i t h.
     short_picked t c.args.exit c.args.k h (c.wide-d.ensures ∙ c.get.ensures) c.args.tapes c.args.row.now _ (omega arith) c.without.ensures
 
 pub trace-requires : goal.trace-requires
