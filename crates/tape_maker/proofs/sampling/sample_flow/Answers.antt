@@ -1,5 +1,5 @@
 -- `tape_maker::sampling::sample_flow` meets its contract: an exit that does not exist, too few cells, and what a finished table gives.
-use mathlib.Core.Path.{refl, sym, ◌∙◌}
+use mathlib.Core.Path.{◌≡◌, refl, sym, ◌∙◌}
 use borrow.Author.Rules.{rules}
 use mir.Syntax.{w32}
 use mir.Val.{SFits, to_z, of_z}
