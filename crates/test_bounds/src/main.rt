@@ -45,7 +45,7 @@ fn main(rt: HostRuntime) -> io::Result<()> {
     let mut buf = [0u8; 131072];
     let mut file = fs::open(&rt, "flows")?;
     match input::read_all(&mut file, &mut buf) {
-        Input::Bytes(n) => print_flows(&rt, &buf[..n]),
+        Input::Bytes(n) => print_flows(&rt, &buf[0..n]),
         Input::Failed => Err(io::Error::other("the file of flows cannot be read")),
     }
 }

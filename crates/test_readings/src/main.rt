@@ -136,7 +136,7 @@ fn print_readings(rt: &(impl Files + Print), list: &[u8]) -> io::Result<()> {
 fn main(rt: HostRuntime) -> io::Result<()> {
     let mut list = [0u8; 65536];
     match read_file(&rt, b"index", &mut list) {
-        Input::Bytes(n) => print_readings(&rt, &list[..n]),
+        Input::Bytes(n) => print_readings(&rt, &list[0..n]),
         Input::Failed => Err(io::Error::other("the list of the files cannot be read")),
     }
 }

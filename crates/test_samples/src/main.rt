@@ -274,7 +274,7 @@ fn print_file(rt: &(impl Files + Print), name: &str, wide: bool) -> io::Result<(
     let mut buf = [0u8; 131072];
     let mut file = fs::open(rt, name)?;
     match input::read_all(&mut file, &mut buf) {
-        Input::Bytes(n) => print_flows(rt, &buf[..n], wide),
+        Input::Bytes(n) => print_flows(rt, &buf[0..n], wide),
         Input::Failed => Err(io::Error::other("a file of flows cannot be read")),
     }
 }

@@ -4,5 +4,5 @@ use Rattle.text.proofs.Parts.{until_end}
 use Rattle.test_cases.proofs.line_end.Goals as goal
 
 pub returns : goal.returns
-returns c =     let a = c.args in
+returns c = let a = c.args in
     omega (arith, until_end 10 a.file.now a.at (omega arith))

@@ -5,4 +5,4 @@ use Rattle.flow.proofs.RowLaws.{width-bound}
 use Rattle.test_readings.proofs.print_instruction.Goals as goal
 
 pub number-requires : goal.number-requires
-number-requires c = omega (arith, c.width-k-end.ensures, width-bound c.args.x.kind)
+number-requires g c = omega (arith, c.width-k-end.ensures, width-bound c.args.x.kind)
