@@ -4,3 +4,4 @@ pub mod Way
 pub mod Reading
 pub mod ReachedPlaces
 pub mod PassInvariant
+pub mod Filling

@@ -1,26 +1,23 @@
--- What a pass keeps from entry to entry. The number that is listed for an exit changes only at the first entry that takes it. An entry stands
--- at one instruction, so that in a column of numbers it concerns the one place of that instruction.
-use mathlib.Core.Path.{◌≡◌, refl, sym, ap, ◌∙◌, subst}
+-- What a pass keeps from entry to entry. The number that is listed for an exit changes only at the first entry that takes it.
+use mathlib.Core.Path.{◌≡◌, refl, sym, ap, ◌∙◌}
 use mathlib.Core.Bool.{Bool, true, false, not, cond, ◌&&◌, ◌||◌, true≢false}
 use mathlib.Core.List.{List}
-use Prim.Native.Nat.{ℕ, suc, ◌+◌, ◌<◌, ◌≤◌}
+use Prim.Native.Nat.{ℕ, ◌+◌, ◌<◌, ◌≤◌}
 use native.Mathlib.Decide.{ℕ_discrete}
 use native.Mathlib.Omega.{arith}
-use lib.ListN.{length, get_or, set, replicate, get_or-replicate, length-set, length-replicate}
-use lib.Seq.{get_or-set_same, get_or-set_other}
+use lib.ListN.{get_or}
 use lib.Dec.{eqb}
 use borrow.Author.Tests.{eq-eqb, ne_eqb}
-use Rattle.graph.proofs.Wanted.{none-at-start, none_more}
+use Rattle.graph.proofs.Wanted.{none_more}
 use Rattle.graph.specs.Inner.Table.{NoneBefore}
 use Rattle.model.specs.Machine.{Exit, p_exit, m_exit, exit_if}
-use Rattle.flow.specs.Limits.{max_instructions}
 use Rattle.configuration.specs.Inner.Place.{words, at_of}
 use Rattle.configuration.specs.Inner.Step.{weight_of, takes_of}
 use Rattle.configuration.specs.declared.Op.{Op}
 use Rattle.configuration.proofs.WordExits.{free_takes}
 use Rattle.configuration.specs.declared.Words.{Words}
 use Rattle.cells.specs.declared.Found.TheVariants.{At, Nothing}
-use Rattle.search_table.specs.Inner.Passes.{blank, takes_at, FirstIs, Listed, unmet, met, Column}
+use Rattle.search_table.specs.Inner.Passes.{takes_at, FirstIs, Listed, unmet, met}
 
 -- ---- words that are an entry's
 pub exit-words : (w : ℕ) (op : Op) (e : Exit) {b : Bool} {x y : Words} → b ≡ takes_of w op x e → x ≡ y → b ≡ takes_of w op y e
@@ -77,7 +74,7 @@ none_left w op x p m d is = by (ℕ_discrete (weight_of op) 0) (ℕ_discrete p 0
     by (no h) (no q) (no r) = (kept-old (takes_of w op x p_exit) p d q, kept-old (takes_of w op x m_exit) m d r)
 
 module _ (takes : ℕ → Bool) (dist : ℕ → ℕ) where
-  listed_more : (k c d r : ℕ) (b : Bool) → takes k ≡ b → d ≡ dist k + 1 → r ≡ cond (b && eqb c 0) d c → Listed takes dist k c
+  pub listed_more : (k c d r : ℕ) (b : Bool) → takes k ≡ b → d ≡ dist k + 1 → r ≡ cond (b && eqb c 0) d c → Listed takes dist k c
       → Listed takes dist (k + 1) r
   listed_more k c d r b h e q (met j f z) =
       met j (record { below = omega (arith, f.below); takes_it = f.takes_it; before = f.before }) (keep b c d r (omega arith) q ∙ z)
@@ -108,55 +105,6 @@ pub takes_told : (w : ℕ) (op : Op) (x : Words) (a i : ℕ) (b exit : Bool) (e 
     → b ≡ takes_of w op x e → b ≡ (eqb (at_of x.place) i && takes_of w op x (exit_if exit))
 takes_told w op x a i b exit e here there is h =
     h ∙ ap (takes_of w op x) (sym is) ∙ sym (ap (λ (t : Bool). t && takes_of w op x (exit_if exit)) (eq-eqb (at_of x.place) i (sym here ∙ there)))
-
--- ---- a column, as the loop fills it: what the entries before k take
-pub record Filling (w : ℕ) (places patterns distances : List ℕ) (ops : List Op) (e : Exit) (k : ℕ) (cells : List ℕ) : Type 0 where
-  pub size : length cells ≡ max_instructions
-  pub column : Column w places patterns distances k ops e cells
-
-module _ {w : ℕ} {places patterns distances : List ℕ} {ops : List Op} {e : Exit} where
-  pub filling_start : Filling w places patterns distances ops e 0 (replicate max_instructions 0)
-  filling_start =
-      record {
-        size = length-replicate {A = ℕ} max_instructions 0;
-        column = record { cell = λ i l. unmet (get_or-replicate max_instructions i 0 0 l) (none-at-start _) };
-      }
-
-  -- entry k stands at instruction i + 1: the other numbers stay
-  module _ {k : ℕ} {cells : List ℕ} (f : Filling w places patterns distances ops e k cells) (i d r : ℕ) (b : Bool) (room : i < max_instructions)
-      (here : at_of (get_or places k 0) ≡ i + 1) (takes : b ≡ takes_of w (get_or ops i blank) (words (get_or places k 0) (get_or patterns k 0)) e)
-      (is : r ≡ cond (b && eqb (get_or cells i 0) 0) d (get_or cells i 0)) (far : d ≡ get_or distances k 0 + 1) where
-    filling_by : (cells' : List ℕ) → length cells' ≡ length cells → get_or cells' i 0 ≡ r
-        → ((j : ℕ) → (j ≡ i → ⊥) → get_or cells' j 0 ≡ get_or cells j 0) → Filling w places patterns distances ops e (k + 1) cells'
-    filling_by cells' size new old =
-        record { size = size ∙ f.size; column = record { cell = λ j l. by j l (ℕ_discrete j i) } }
-      where
-        Next : ℕ → ℕ → Type 0
-        Next j c = Listed (takes_at w places patterns (get_or ops j blank) (suc j) e) (λ k. get_or distances k 0) (k + 1) c
-
-        by : (j : ℕ) → j < max_instructions → Dec (j ≡ i) → Next j (get_or cells' j 0)
-        by j l (yes q) =
-            subst (λ (j : ℕ). Next j (get_or cells' j 0)) (sym q)
-            (subst (Next i) (sym new)
-            (listed_more _ _ k (get_or cells i 0) d r b (takes-here w places patterns (get_or ops i blank) e k (suc i) (omega arith) ∙ sym takes) far is
-            (f.column.cell i room)))
-        by j l (no q) =
-            subst (Next j) (sym (old j q))
-            (listed_more _ _ k (get_or cells j 0) (get_or distances k 0 + 1) (get_or cells j 0) false
-            (takes_elsewhere w places patterns (get_or ops j blank) e k (suc j) (λ s. q (omega arith))) refl refl (f.column.cell j l))
-
-    pub filling_more : Filling w places patterns distances ops e (k + 1) (set cells i r)
-    filling_more =
-        filling_by (set cells i r) (length-set cells i r) (get_or-set_same cells i r 0 (omega (arith, f.size)))
-        (λ j q. get_or-set_other cells i j r 0 q)
-
-    -- its number stays too
-    pub filling_same : get_or cells i 0 ≡ r → Filling w places patterns distances ops e (k + 1) cells
-    filling_same same = filling_by cells refl same (λ j q. refl)
-
-  pub filling_end : {k n : ℕ} {cells : List ℕ} → Filling w places patterns distances ops e k cells → k ≡ n
-      → Column w places patterns distances n ops e cells
-  filling_end {cells = cells} f q = subst (λ (n : ℕ). Column w places patterns distances n ops e cells) q f.column
 
 -- ---- the first entry; r says whether entry k takes the exit
 pub first_found : {takes : ℕ → Bool} {n k : ℕ} {r : Bool} → k < n → NoneBefore takes k → r ≡ takes k → r ≡ true → FirstIs takes n (At k)

@@ -17,11 +17,11 @@ returns-then-count-h c = let f = c.requires.filled_in in
 
 pub get-requires : goal.get-requires
 get-requires c = let f = c.requires.filled_in in
-    (omega (arith, filled-room _ f, f.index.some, f.index.within, c.if-count-h.false), omega arith)
+    (omega (arith, filled-room _ f, f.index.some, f.index.within), omega arith)
 
 pub returns-then-wide-b : goal.returns-then-wide-b
 returns-then-wide-b c = head-counts _ _ _ _ _ _ c.requires.filled_in c.get-head.ensures c.wide-h.ensures _ (c.wide.ensures ∙ c.get.ensures)
-    c.if-h-eq0.false c.if-count-h.false (omega (arith, c.if-wide-b.true))
+    c.if-h-eq0.false (omega arith) (omega (arith, c.if-wide-b.true))
 
 pub returns : goal.returns
 returns c = head-other _ _ _ _ _ _ c.requires.filled_in c.get-head.ensures c.wide-h.ensures _ (c.wide.ensures ∙ c.get.ensures)

@@ -1,4 +1,4 @@
--- `exits` meets its contract: both columns list what the entries before k take (proofs/PassInvariant.antt).
+-- `exits` meets its contract: both columns list what the entries before k take (proofs/Filling.antt).
 use mathlib.Core.Path.{refl, sym, ap, ◌∙◌, subst}
 use mathlib.Core.List.{List}
 use Prim.Native.Nat.{ℕ, ◌+◌, ◌<◌, ◌≤◌}
@@ -10,7 +10,8 @@ use Rattle.configuration.specs.Inner.Place.{at_of}
 use Rattle.cells.proofs.Fields.{length-word-column}
 use Rattle.search_table.specs.Inner.Passes.{Stands, Walkable}
 use Rattle.cells.specs.Inner.Columns.{place_field, pattern_field, distance_field, column, word_column}
-use Rattle.search_table.proofs.PassInvariant.{exit-words, Filling, filling_start, none_left, filling_more, filling_same, filling_end}
+use Rattle.search_table.proofs.PassInvariant.{exit-words, none_left}
+use Rattle.search_table.proofs.Filling.{Filling, filling_start, filling_more, filling_same, filling_end}
 use Rattle.search_table.proofs.exits.Goals.{In-loop-k, Joined-unlisted, then-unlisted, else-unlisted}
 use Rattle.search_table.proofs.exits.Invariants.{Listing}
 use Rattle.search_table.proofs.exits.Goals as goal

@@ -1,11 +1,11 @@
--- `exits` meets its contract: both columns list what the entries before k take (proofs/PassInvariant.antt).
+-- `exits` meets its contract: both columns list what the entries before k take (proofs/Filling.antt).
 use Prim.Native.Nat.{◌-◌, ◌≤◌}
 use mathlib.Core.List.{List}
 use Prim.Native.Nat.{ℕ}
 use Rattle.model.specs.Machine.{Exit, p_exit, m_exit}
 use Rattle.configuration.specs.declared.Op.{Op}
 use Rattle.cells.specs.Inner.Columns.{place_field, pattern_field, distance_field, column, word_column}
-use Rattle.search_table.proofs.PassInvariant.{Filling}
+use Rattle.search_table.proofs.Filling.{Filling}
 use Rattle.search_table.proofs.exits.Given as goal
 
 abbrev pub Listing : (cells : List (List ℕ)) (w : ℕ) (ops : List Op) → Exit → (k : ℕ) → List ℕ → Type 0

@@ -1,24 +1,18 @@
 -- `unlisted` meets its contract (proofs/PassInvariant.antt).
-use mathlib.Core.Path.{◌≡◌}
 use native.Mathlib.Omega.{arith}
 use lib.Dec.{eqb}
 use Rattle.configuration.specs.Inner.Step.{weight_of}
 use Rattle.search_table.proofs.PassInvariant.{unlisted_free, unlisted_p, unlisted_m}
-use Rattle.search_table.proofs.unlisted.Goals.{Else-weight-eq0}
 use Rattle.search_table.proofs.unlisted.Goals as goal
 
 pub returns-then-weight-eq0 : goal.returns-then-weight-eq0
 returns-then-weight-eq0 c = let a = c.args in
     unlisted_free (weight_of a.op) _ (omega (arith, c.if-weight-eq0.true, c.weight.ensures))
 
--- the instruction has exits
-weighs : (c : Else-weight-eq0) → weight_of c.args.op ≡ 0 → ⊥
-weighs c e = omega (arith, c.if-weight-eq0.false, c.weight.ensures, e)
-
 pub returns-then-p-eq0 : goal.returns-then-p-eq0
 returns-then-p-eq0 c = let a = c.args in
-    unlisted_p (weight_of a.op) a.p (eqb a.m 0) (weighs (goal.at.returns-then-p-eq0 c).Else-weight-eq0) (omega (arith, c.if-p-eq0.true))
+    unlisted_p (weight_of a.op) a.p (eqb a.m 0) (λ e. omega (arith, c.weight.ensures, e)) (omega (arith, c.if-p-eq0.true))
 
 pub returns : goal.returns
 returns c = let a = c.args in
-    unlisted_m (weight_of a.op) a.p (eqb a.m 0) (weighs (goal.at.returns c).Else-weight-eq0) (λ e. omega (arith, c.if-p-eq0.false, e))
+    unlisted_m (weight_of a.op) a.p (eqb a.m 0) (λ e. omega (arith, c.weight.ensures, e)) (λ e. omega (arith, c.if-p-eq0.false, e))
