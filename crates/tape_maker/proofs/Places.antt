@@ -12,7 +12,7 @@ use Rattle.model.specs.Machine.{Exit, exit_if}
 use Rattle.flow.specs.Read.{Checked, ok, fault, check, after, read_flow}
 use Rattle.flow.specs.Refusals.{place_of}
 use Rattle.flow.specs.declared.Refusal.{Refusal}
-use Rattle.flow.specs.declared.Refusal.TheVariants.{TooFewCells, ShortRow, NoSuchExit, WrongTapes}
+use Rattle.flow.specs.declared.Refusal.TheVariants.{WrongTapes}
 use Rattle.flow.proofs.Places.{read-place}
 use Rattle.interpreter.specs.Run.{Progress, coming, is_stop, onward, fit, Outcome, outcome, limited, row_run, ran_of}
 use Rattle.interpreter.specs.declared.RunEnd as RunEnds

@@ -1,6 +1,6 @@
 -- How long the run of a sample takes (document 02, T-04: a distance counts exits, a run counts steps). It takes its exit within as many steps as there
 -- are reachable configurations, so within as many as there are cells, of which 65,536 at most are used; a run may have 1,000,000 steps.
-use mathlib.Core.Path.{◌≡◌, refl, subst}
+use mathlib.Core.Path.{◌≡◌, subst}
 use mathlib.Core.Bool.{Bool}
 use mathlib.Core.List.{List}
 use Prim.Native.Nat.{ℕ, ◌≤◌}

@@ -1,6 +1,5 @@
 -- `render::all_exits` meets its contract: who puts the lines of the instructions from i on behind those before them puts all.
 use mathlib.Core.Path.{refl}
-use Prim.Native.Nat.{◌-◌}
 use native.Mathlib.Omega.{arith}
 use borrow.Author.Rules.{rules}
 use Rattle.render.proofs.Puts.{put-none, put_both}
@@ -11,7 +10,7 @@ pub loop-i-init : goal.loop-i-init
 loop-i-init c = (omega arith, omega arith, refl, λ row r p. p)
 
 pub loop-i-preserved : goal.loop-i-preserved
-loop-i-preserved c =     let a = c.args in
+loop-i-preserved c = let a = c.args in
     let l = c.loop-i in
     let next = lines_next a.two a.p a.m 64 l.i (omega arith) in (
       omega arith,
@@ -21,7 +20,7 @@ loop-i-preserved c =     let a = c.args in
     )
 
 pub returns : goal.returns
-returns c =     let a = c.args in
+returns c = let a = c.args in
     let l = c.loop-i in
     (l.invariant.3 l.out l.end (rw (lines-last a.two a.p a.m 64 l.i (omega arith)) (put-none l.out l.end)), omega arith)
 

@@ -6,5 +6,5 @@ use Rattle.render.proofs.Lines.{bound_line_lem}
 use Rattle.render.proofs.bound_line.Goals as goal
 
 pub returns : goal.returns
-returns c =     let n = c.args.n in
+returns c = let n = c.args.n in
     (rw (bound_line_lem (decimal n)) at (put_both (put_both c.copy-x.ensures c.field-y.ensures.0) c.copy.ensures), search rules)

@@ -1,6 +1,6 @@
 -- `render::copy` meets its contract: who puts the bytes from i on behind those before them puts all.
 use mathlib.Core.Path.{◌≡◌, refl}
-use Prim.Native.Nat.{◌+◌, ◌-◌}
+use Prim.Native.Nat.{◌+◌}
 use native.Mathlib.Omega.{arith}
 use borrow.Author.Rules.{rules}
 use Rattle.render.proofs.Puts.{put_next, put_last}
@@ -10,12 +10,12 @@ pub loop-i-init : goal.loop-i-init
 loop-i-init c = (omega arith, refl, λ row r p. let z : c.args.at + 0 ≡ c.args.at = omega arith in rw z at p)
 
 pub loop-i-preserved : goal.loop-i-preserved
-loop-i-preserved c =     let a = c.args in
+loop-i-preserved c = let a = c.args in
     let l = c.loop-i in
     (omega arith, search rules, λ row r p. l.invariant.2 row r (put_next a.bytes.now l.i l.out a.at row r (omega arith) p))
 
 pub returns : goal.returns
-returns c =     let a = c.args in
+returns c = let a = c.args in
     let l = c.loop-i in
     l.invariant.2 l.out (a.at + l.i) (put_last a.bytes.now l.i l.out (a.at + l.i) (omega arith))
 

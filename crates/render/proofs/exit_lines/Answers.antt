@@ -6,7 +6,7 @@ use Rattle.render.proofs.Lines.{two-lines}
 use Rattle.render.proofs.exit_lines.Goals as goal
 
 pub returns-then-two : goal.returns-then-two
-returns-then-two c =     let both = put_both c.exit_line-a.ensures.0 c.exit_line.ensures.0 in
+returns-then-two c = let both = put_both c.exit_line-a.ensures.0 c.exit_line.ensures.0 in
     let p = rw two-lines at both in
     (rw c.if-two.true p, search rules)
 

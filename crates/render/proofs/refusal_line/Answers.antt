@@ -2,4 +2,4 @@
 use Rattle.render.proofs.refusal_line.Goals as goal
 
 pub returns : goal.returns
-returns c =     (rw (c.number.ensures, c.place.ensures) at c.word_line.ensures.0, c.word_line.ensures.1)
+returns c = (rw (c.number.ensures, c.place.ensures) at c.word_line.ensures.0, c.word_line.ensures.1)

@@ -6,6 +6,6 @@ use Rattle.render.proofs.Lines.{word_line_lem}
 use Rattle.render.proofs.word_line.Goals as goal
 
 pub returns : goal.returns
-returns c =     let a = c.args in
+returns c = let a = c.args in
     let fields = put_both (put_both c.copy-x.ensures c.field-y.ensures.0) c.field-z.ensures.0 in
     (rw (word_line_lem a.word.now (decimal a.a) (decimal a.b)) at (put_both fields c.copy.ensures), search rules)

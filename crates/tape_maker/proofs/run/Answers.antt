@@ -11,13 +11,13 @@ pub run_flow-requires : goal.run_flow-requires
 run_flow-requires c = (legal (goal.at.run_flow-requires c).In-Legal).legal
 
 pub returns-in-Refused : goal.returns-in-Refused
-returns-in-Refused c =     let a = c.args in
+returns-in-Refused c = let a = c.args in
     let e = requested-fault a.text.now a.limit a.records.now a.lengths.now a.numbers.now a.values.now _
     (read-fault _ _ _ c.read-reading.ensures c.in-Refused.is) in
     refused_is _ _ _ _ _ e c.run_refused.ensures
 
 pub returns-in-Legal : goal.returns-in-Legal
-returns-in-Legal c =     let a = c.args in
+returns-in-Legal c = let a = c.args in
     let e = requested-ok a.text.now a.limit a.records.now a.lengths.now a.numbers.now a.values.now _
     (legal (goal.at.returns-in-Legal c).In-Legal).read in
     run_carried e c.run_flow.ensures

@@ -29,13 +29,13 @@ hi-is : (c : After-width) → to_z w32 (of_z w32 c.range_of-range.result.hi) ≡
 hi-is c = let f : SFits w32 c.range_of-range.result.hi = search rules in to_z-of_z f ∙ c.range_of-range.ensures.1
 
 pub prepare-requires : goal.prepare-requires
-prepare-requires c =  (c.requires.1, rows-bytes c.args.flow c.requires.0)
+prepare-requires c = (c.requires.1, rows-bytes c.args.flow c.requires.0)
 
 pub start-requires : goal.start-requires
-start-requires c =     subst⁻¹ (λ (z : ℤ). offset (pos 0) z < lane) (lo-is (goal.at.start-requires c).After-width) (start_fits (fit-legal (flow_of c.args.flow) c.requires.0))
+start-requires c = subst⁻¹ (λ (z : ℤ). offset (pos 0) z < lane) (lo-is (goal.at.start-requires c).After-width) (start_fits (fit-legal (flow_of c.args.flow) c.requires.0))
 
 pub returns : goal.returns
-returns c =     let flow = c.args.flow in
+returns c = let flow = c.args.flow in
     let range = c.range_of-range.ensures in
     let ops = c.prepare in
     record {

@@ -1,6 +1,5 @@
 -- `tape_maker::planning::prepare` meets its contract.
 use mathlib.Core.Path.{◌≡◌, sym, ap, ◌∙◌, subst}
-use Prim.Native.Nat.{◌-◌}
 use native.Mathlib.Omega.{arith}
 use borrow.Author.Rules.{rules}
 use mir.Facts.{to_z-of_z}
@@ -28,11 +27,11 @@ abbrev past : Row
 past = row Read []
 
 pub prepare-requires : goal.prepare-requires
-prepare-requires c =     let long : length c.args.instructions ≡ 64 = search rules in
+prepare-requires c = let long : length c.args.instructions ≡ 64 = search rules in
     subst FitBytes (same_there c.args.instructions c.loop-i.i (row_of stop) past (omega arith)) (c.requires.1 c.loop-i.i (omega arith))
 
 pub loop-i-preserved : goal.loop-i-preserved
-loop-i-preserved c =     let a = c.args in
+loop-i-preserved c = let a = c.args in
     let i = c.loop-i.i in
     let long : length a.instructions ≡ 64 = search rules in (
       omega arith,

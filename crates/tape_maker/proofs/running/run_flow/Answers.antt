@@ -19,27 +19,30 @@ adds c = sym c.adds_up.ensures ∙ c.if-not-adds_up.false
 -- ---- the needs
 pub returns-then-lengths-flow : goal.returns-then-lengths-flow
 unfolding flow_of
-returns-then-lengths-flow c =     let a = c.args in
+returns-then-lengths-flow c = let a = c.args in
     let e = wrong_count (flow_of a.flow) a.limit a.records.now a.lengths.now a.numbers.now a.values.now c.if-lengths-flow.true in
     refused_is _ _ _ _ _ e c.run_refused.ensures
 
 pub returns-then-not-adds_up : goal.returns-then-not-adds_up
 unfolding flow_of
-returns-then-not-adds_up c =     let a = c.args in
+returns-then-not-adds_up c = let a = c.args in
     let e = wrong_sum (flow_of a.flow) a.limit a.records.now a.lengths.now a.numbers.now a.values.now c.if-lengths-flow.false
     (sym c.adds_up.ensures ∙ c.if-not-adds_up.true) in
     refused_is _ _ _ _ _ e c.run_refused-then-not-adds_up.ensures
 
 pub run-requires : goal.run-requires
 unfolding flow_of
-run-requires c =     let a = c.args in
-    let l = c.requires in record { legal = l; lengths_in_bounds = subst⁻¹ (λ (t : List ℕ). total t ≤ length a.records.now) c.three.ensures
+run-requires c = let a = c.args in
+    let l = c.requires in record {
+      legal = l;
+      lengths_in_bounds = subst⁻¹ (λ (t : List ℕ). total t ≤ length a.records.now) c.three.ensures
           (three-fit (flow_of a.flow) a.limit a.records.now a.lengths.now a.numbers.now a.values.now c.if-lengths-flow.false l.tapes.1
-          (adds (goal.at.run-requires c).Else-not-adds_up)) }
+          (adds (goal.at.run-requires c).Else-not-adds_up));
+    }
 
 pub returns : goal.returns
 unfolding flow_of
-returns c =     let a = c.args in
+returns c = let a = c.args in
     let e = right_tapes (flow_of a.flow) a.limit a.records.now a.lengths.now a.numbers.now a.values.now c.if-lengths-flow.false
     c.requires.tapes.1 (adds (goal.at.returns c).Else-not-adds_up) in
     let w : List ℕ → Outcome = λ t. row_run (flow_of a.flow) a.limit a.records.now t a.numbers.now a.values.now in

@@ -15,7 +15,7 @@ use Rattle.tape_maker.proofs.sampling.sample_flow.Goals as goal
 
 -- ---- the needs
 pub returns-then-not-has_exits : goal.returns-then-not-has_exits
-returns-then-not-has_exits c =     let a = c.args in
+returns-then-not-has_exits c = let a = c.args in
     plain_answered (flow_of a.flow) a.instruction (exit_if a.exit) (cells_of a.cells.now) a.row.now _ _ refl
     (flow-exits a.flow a.instruction (sym c.has_exits.ensures ∙ c.if-not-has_exits.true)) c.without.ensures
 
@@ -25,10 +25,10 @@ wanted c =
     flow-exits c.args.flow c.args.instruction (sym c.has_exits.ensures ∙ c.if-not-has_exits.false)
 
 pub search-found-requires : goal.search-found-requires
-search-found-requires c =     record { table = c.make_table-table.ensures; start_value = plan_subject c.plan_of-plan.ensures }
+search-found-requires c = record { table = c.make_table-table.ensures; start_value = plan_subject c.plan_of-plan.ensures }
 
 pub returns-in-Full : goal.returns-in-Full
-returns-in-Full c =     let a = c.args in
+returns-in-Full c = let a = c.args in
     full-answered (flow_of a.flow) a.instruction (exit_if a.exit) (cells_of a.cells.now) a.row.now _ _ refl (wanted (goal.at.returns-in-Full c).After-plan_of-plan)
     (search_full c.plan_of-plan.ensures _ c.search-found.ensures c.in-Full.is) c.without-in-Full.ensures
 
@@ -40,7 +40,7 @@ high-is : (c : After-plan_of-plan) → to_z w32 (of_z w32 c.plan_of-plan.result.
 high-is c = let fits : SFits w32 c.plan_of-plan.result.hi = search rules in to_z-of_z fits
 
 pub sample_for-requires : goal.sample_for-requires
-sample_for-requires c =     let planned = (goal.at.sample_for-requires c).After-plan_of-plan in
+sample_for-requires c = let planned = (goal.at.sample_for-requires c).After-plan_of-plan in
     let finished = search_done c.plan_of-plan.ensures _ c.search-found.ensures c.in-Done.is in
     record {
       table = c.make_table-table.ensures;
@@ -49,7 +49,7 @@ sample_for-requires c =     let planned = (goal.at.sample_for-requires c).After-
 
 pub returns-in-Done : goal.returns-in-Done
 unfolding flow_of
-returns-in-Done c =     let a = c.args in
+returns-in-Done c = let a = c.args in
     let planned = (goal.at.returns-in-Done c).After-plan_of-plan in
     let finished = search_done c.plan_of-plan.ensures _ c.search-found.ensures c.in-Done.is in
     let tabled = finished_tabled c.plan_of-plan.ensures c.search-found.new.cells finished (wanted planned) (low-is planned) (high-is planned) in
