@@ -109,7 +109,8 @@ fn walk(
     let mut c = 0;
     let mut k = 0;
     while k < n {
-        if c < n {
+        let unsettled = c < n;
+        if unsettled {
             let i = search_table::index(cells::word(cells, c, Cell::PLACE));
             let op = ops[i];
             let g = settle(cells, table, n, size, c, op, w);
@@ -148,7 +149,8 @@ pub fn search(
         (cells_of cells.old) result }
 {
     let size = cells::cells_of(cells);
-    if size == 0 {
+    let empty = size == 0;
+    if empty {
         return Searched::Full;
     }
     cells::begin(cells, size, start.place, start.pattern);

@@ -6,12 +6,12 @@ use Rattle.search.specs.Inner.Search.{SearchedIs}
 use Rattle.search.proofs.Exploring.{begun_exploring, none_fits, marks-room, of_all_cells}
 use Rattle.search.proofs.search.Goals as goal
 
-pub returns-then-size-eq0 : goal.returns-then-size-eq0
+pub returns-then-empty : goal.returns-then-empty
 unfolding SearchedIs
-returns-then-size-eq0 c = λ s is. none_fits _ _ _ _ (sym c.cells_of-size.ensures ∙ omega (arith, c.if-size-eq0.true))
+returns-then-empty c = λ s is. none_fits _ _ _ _ (sym c.cells_of-size.ensures ∙ omega (arith, c.if-empty.true))
 
 pub begin-requires : goal.begin-requires
-begin-requires c = record { size_nonzero = omega (arith, c.if-size-eq0.false); size_bound = subst (λ (n : ℕ). c.cells_of-size.result ≤ n) c.cells_of-size.ensures (omega arith) }
+begin-requires c = record { size_nonzero = omega (arith, c.if-empty.false); size_bound = subst (λ (n : ℕ). c.cells_of-size.result ≤ n) c.cells_of-size.ensures (omega arith) }
 
 pub walk-requires : goal.walk-requires
 walk-requires c = record {

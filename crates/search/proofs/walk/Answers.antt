@@ -23,7 +23,7 @@ use Rattle.search.specs.Inner.Search.{LeadsAt, ExpandedIs, Subject, Exploring, S
 use Rattle.search_visit.proofs.Fanning.{grown_to, grown_full}
 use Rattle.graph.proofs.Search.{Turn}
 use Rattle.search.proofs.Exploring.{entry-room, picked, settled-within, entry-stands, entry_fine, entry-near, explored, explored_full, search_finished}
-use Rattle.search.proofs.walk.Goals.{After-index-i, After-index-i-else-c-n, Else-c-n, In-loop-k, Then-c-n}
+use Rattle.search.proofs.walk.Goals.{After-index-i, After-index-i-else-unsettled, Else-unsettled, In-loop-k, Then-unsettled}
 use Rattle.search.proofs.walk.Goals as goal
 
 -- ---- the search, as a turn finds it
@@ -66,63 +66,63 @@ module _ (c : In-loop-k) {at cost : ℕ} (turn : Turn c.loop-k.n c.loop-k.c c.lo
         explored_full s.fit (c.loop-k.invariant.0 s begun) c.loop-k-test.true turn (pick s) (grown_full (LeadsAt _ _ _ _) _ _ _ _ _ _ _ _ _ grew is)
 
 -- ---- an entry is settled
-late : (c : Then-c-n) → c.loop-k.c < c.loop-k.n
-late c = omega (arith, c.if-c-n.true, c.loop-k-test.true)
+late : (c : Then-unsettled) → c.loop-k.c < c.loop-k.n
+late c = omega (arith, c.if-unsettled.true, c.loop-k-test.true)
 
-settling : (c : Then-c-n) → Turn c.loop-k.n c.loop-k.c c.loop-k.k c.loop-k.c 0
+settling : (c : Then-unsettled) → Turn c.loop-k.n c.loop-k.c c.loop-k.k c.loop-k.c 0
 settling c = inl (late c, refl, refl)
 
 pick : (c : After-index-i) → Picked c.args.w c.args.ops c.loop-k.cells (get_or c.args.ops c.index-i.result blank) c.loop-k.c
 pick c s = picked s.prepared _ _ (sym (ap at_of c.word.ensures) ∙ c.index-i.ensures.0) c.index-i.ensures.1
 
 -- ---- an entry is expanded
-expanding : (c : Else-c-n) → Turn c.loop-k.n c.loop-k.c c.loop-k.k c.loop-k.k 1
-expanding c = inr (omega (arith, c.if-c-n.false), refl, refl)
+expanding : (c : Else-unsettled) → Turn c.loop-k.n c.loop-k.c c.loop-k.k c.loop-k.k 1
+expanding c = inr (omega (arith, c.if-unsettled.false), refl, refl)
 
-pick-2 : (c : After-index-i-else-c-n) → Picked c.args.w c.args.ops c.loop-k.cells (get_or c.args.ops c.index-i-else-c-n.result blank) c.loop-k.k
-pick-2 c s = picked s.prepared _ _ (sym (ap at_of c.word-else-c-n.ensures) ∙ c.index-i-else-c-n.ensures.0) c.index-i-else-c-n.ensures.1
+pick-2 : (c : After-index-i-else-unsettled) → Picked c.args.w c.args.ops c.loop-k.cells (get_or c.args.ops c.index-i-else-unsettled.result blank) c.loop-k.k
+pick-2 c s = picked s.prepared _ _ (sym (ap at_of c.word-else-unsettled.ensures) ∙ c.index-i-else-unsettled.ensures.0) c.index-i-else-unsettled.ensures.1
 
 -- ---- the needs
 pub loop-k-init : goal.loop-k-init
 loop-k-init c = (λ s x. x, refl)
 
 pub word-requires : goal.word-requires
-word-requires c = (room (goal.at.word-requires c).In-loop-k _ (late (goal.at.word-requires c).Then-c-n), omega arith)
+word-requires c = (room (goal.at.word-requires c).In-loop-k _ (late (goal.at.word-requires c).Then-unsettled), omega arith)
 
 pub index-i-requires : goal.index-i-requires
-index-i-requires c = subst Stands (sym c.word.ensures) (stands (goal.at.index-i-requires c).In-loop-k _ (late (goal.at.index-i-requires c).Then-c-n))
+index-i-requires c = subst Stands (sym c.word.ensures) (stands (goal.at.index-i-requires c).In-loop-k _ (late (goal.at.index-i-requires c).Then-unsettled))
 
 pub settle-g-requires : goal.settle-g-requires
-settle-g-requires c = record { table = c.requires.table; search_ready = (exploring (goal.at.settle-g-requires c).In-loop-k).ready; i_lt_count = late (goal.at.settle-g-requires c).Then-c-n; fan_fits = fine (goal.at.settle-g-requires c).In-loop-k (settling (goal.at.settle-g-requires c).Then-c-n) _ (pick (goal.at.settle-g-requires c).After-index-i) }
+settle-g-requires c = record { table = c.requires.table; search_ready = (exploring (goal.at.settle-g-requires c).In-loop-k).ready; i_lt_count = late (goal.at.settle-g-requires c).Then-unsettled; fan_fits = fine (goal.at.settle-g-requires c).In-loop-k (settling (goal.at.settle-g-requires c).Then-unsettled) _ (pick (goal.at.settle-g-requires c).After-index-i) }
 
 pub returns-in_default : goal.returns-in_default
 unfolding SearchedIs
-returns-in_default c = full (goal.at.returns-in_default c).In-loop-k (settling (goal.at.returns-in_default c).Then-c-n) _ (pick (goal.at.returns-in_default c).After-index-i) _ _ c.settle-g.ensures c.in_default.is
+returns-in_default c = full (goal.at.returns-in_default c).In-loop-k (settling (goal.at.returns-in_default c).Then-unsettled) _ (pick (goal.at.returns-in_default c).After-index-i) _ _ c.settle-g.ensures c.in_default.is
 
 pub overflow_add-c : goal.overflow_add-c
 overflow_add-c c = let x = exploring (goal.at.overflow_add-c c).In-loop-k in
     record { fits = omega (arith, settled-within x, x.ready.filled.index.within, x.ready.filled.index.few) }
 
-pub loop-k-smaller-then-c-n : goal.loop-k-smaller-then-c-n
-loop-k-smaller-then-c-n c = omega (arith, (exploring (goal.at.loop-k-smaller-then-c-n c).In-loop-k).ready.filled.index.within, late (goal.at.loop-k-smaller-then-c-n c).Then-c-n, c.loop-k-test.true)
+pub loop-k-smaller-then-unsettled : goal.loop-k-smaller-then-unsettled
+loop-k-smaller-then-unsettled c = omega (arith, (exploring (goal.at.loop-k-smaller-then-unsettled c).In-loop-k).ready.filled.index.within, late (goal.at.loop-k-smaller-then-unsettled c).Then-unsettled, c.loop-k-test.true)
 
-pub loop-k-preserved-then-c-n : goal.loop-k-preserved-then-c-n
-loop-k-preserved-then-c-n c = again (goal.at.loop-k-preserved-then-c-n c).In-loop-k (settling (goal.at.loop-k-preserved-then-c-n c).Then-c-n) _ (pick (goal.at.loop-k-preserved-then-c-n c).After-index-i) _ _ c.settle-g.ensures c.in-To.is c.settle-g.auto.cells (omega arith) (omega arith)
+pub loop-k-preserved-then-unsettled : goal.loop-k-preserved-then-unsettled
+loop-k-preserved-then-unsettled c = again (goal.at.loop-k-preserved-then-unsettled c).In-loop-k (settling (goal.at.loop-k-preserved-then-unsettled c).Then-unsettled) _ (pick (goal.at.loop-k-preserved-then-unsettled c).After-index-i) _ _ c.settle-g.ensures c.in-To.is c.settle-g.auto.cells (omega arith) (omega arith)
 
-pub word-requires-else-c-n : goal.word-requires-else-c-n
-word-requires-else-c-n c = (room (goal.at.word-requires-else-c-n c).In-loop-k _ c.loop-k-test.true, omega arith)
+pub word-requires-else-unsettled : goal.word-requires-else-unsettled
+word-requires-else-unsettled c = (room (goal.at.word-requires-else-unsettled c).In-loop-k _ c.loop-k-test.true, omega arith)
 
-pub index-i-requires-else-c-n : goal.index-i-requires-else-c-n
-index-i-requires-else-c-n c = subst Stands (sym c.word-else-c-n.ensures) (stands (goal.at.index-i-requires-else-c-n c).In-loop-k _ c.loop-k-test.true)
+pub index-i-requires-else-unsettled : goal.index-i-requires-else-unsettled
+index-i-requires-else-unsettled c = subst Stands (sym c.word-else-unsettled.ensures) (stands (goal.at.index-i-requires-else-unsettled c).In-loop-k _ c.loop-k-test.true)
 
 pub expand-g-requires : goal.expand-g-requires
 expand-g-requires c = let x = exploring (goal.at.expand-g-requires c).In-loop-k in
     let stored = c.loop-k-test.true in
-    record { table = c.requires.table; search_ready = x.ready; i_lt_count = stored; fan_fits = fine (goal.at.expand-g-requires c).In-loop-k (expanding (goal.at.expand-g-requires c).Else-c-n) _ (pick-2 (goal.at.expand-g-requires c).After-index-i-else-c-n); i_bound = entry-near c.requires.exploring.0.fit x stored (expanding (goal.at.expand-g-requires c).Else-c-n) }
+    record { table = c.requires.table; search_ready = x.ready; i_lt_count = stored; fan_fits = fine (goal.at.expand-g-requires c).In-loop-k (expanding (goal.at.expand-g-requires c).Else-unsettled) _ (pick-2 (goal.at.expand-g-requires c).After-index-i-else-unsettled); i_bound = entry-near c.requires.exploring.0.fit x stored (expanding (goal.at.expand-g-requires c).Else-unsettled) }
 
 pub returns-in_default-g : goal.returns-in_default-g
 unfolding SearchedIs
-returns-in_default-g c = full (goal.at.returns-in_default-g c).In-loop-k (expanding (goal.at.returns-in_default-g c).Else-c-n) _ (pick-2 (goal.at.returns-in_default-g c).After-index-i-else-c-n) _ _ c.expand-g.ensures c.in_default-g.is
+returns-in_default-g c = full (goal.at.returns-in_default-g c).In-loop-k (expanding (goal.at.returns-in_default-g c).Else-unsettled) _ (pick-2 (goal.at.returns-in_default-g c).After-index-i-else-unsettled) _ _ c.expand-g.ensures c.in_default-g.is
 
 pub overflow_add-k : goal.overflow_add-k
 overflow_add-k c = let x = exploring (goal.at.overflow_add-k c).In-loop-k in
@@ -133,7 +133,7 @@ loop-k-smaller c = let x = exploring (goal.at.loop-k-smaller c).In-loop-k in
     omega (arith, x.ready.filled.index.within, settled-within x, c.loop-k-test.true)
 
 pub loop-k-preserved : goal.loop-k-preserved
-loop-k-preserved c = again (goal.at.loop-k-preserved c).In-loop-k (expanding (goal.at.loop-k-preserved c).Else-c-n) _ (pick-2 (goal.at.loop-k-preserved c).After-index-i-else-c-n) _ _ c.expand-g.ensures c.in-To-g.is c.expand-g.auto.cells (omega arith) (omega arith)
+loop-k-preserved c = again (goal.at.loop-k-preserved c).In-loop-k (expanding (goal.at.loop-k-preserved c).Else-unsettled) _ (pick-2 (goal.at.loop-k-preserved c).After-index-i-else-unsettled) _ _ c.expand-g.ensures c.in-To-g.is c.expand-g.auto.cells (omega arith) (omega arith)
 
 pub returns : goal.returns
 unfolding SearchedIs
