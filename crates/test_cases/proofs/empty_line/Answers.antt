@@ -1,6 +1,5 @@
 -- `test_cases::empty_line` meets its contract: the first empty line is the same from each place that the loop reaches.
 use mathlib.Core.Path.{refl}
-use Prim.Native.Nat.{◌-◌}
 use native.Mathlib.Omega.{arith}
 use Rattle.test_cases.proofs.Laws.{empty_here, empty_further, empty_end}
 use Rattle.test_cases.proofs.empty_line.Goals as goal
