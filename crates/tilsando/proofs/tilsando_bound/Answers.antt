@@ -10,7 +10,7 @@ pub tell_bound-requires : goal.tell_bound-requires
 tell_bound-requires c = λ why e. bound-place _ why (sym c.bound-bound.ensures ∙ e)
 
 pub returns : goal.returns
-returns c =     let answer = c.args.answer in
+returns c = let answer = c.args.answer in
     subst (λ (a : BoundAnswer). BoundTold a (answer.now ∷ []) (c.tell_bound.new.answer ∷ []) c.tell_bound.result) c.bound-bound.ensures
     c.tell_bound.ensures
 

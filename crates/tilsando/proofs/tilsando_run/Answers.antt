@@ -6,7 +6,7 @@ pub tell_run-requires : goal.tell_run-requires
 tell_run-requires c = run-place _ _ _ _ _ _ _ _ _ c.run-ran.ensures
 
 pub returns : goal.returns
-returns c =  (_, c.run-ran.ensures, c.tell_run.ensures)
+returns c = (_, c.run-ran.ensures, c.tell_run.ensures)
 
 pub shape_of-numbers : goal.shape_of-numbers
 shape_of-numbers c = search

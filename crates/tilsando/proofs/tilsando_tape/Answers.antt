@@ -5,5 +5,5 @@ use Rattle.tilsando.specs.Exports.{laid, span_values}
 use Rattle.tilsando.proofs.tilsando_tape.Goals as goal
 
 pub returns : goal.returns
-returns c =     let a = c.args in
+returns c = let a = c.args in
     (refl, c.lay_numbers.ensures ∙ ap (λ (s : Span). laid (span_values s) a.answer.now) c.span_of-span.ensures)

@@ -1,6 +1,5 @@
 -- `tilsando::rows::lay_numbers` meets its contract: proofs/Laying.antt. The measure is what is left of the values.
 use mathlib.Core.Path.{refl}
-use Prim.Native.Nat.{◌-◌}
 use borrow.Author.Rules.{rules}
 use Rattle.tilsando.proofs.Laying.{laid_none, laying_more, laid-full, laid-all}
 use Rattle.tilsando.proofs.rows.lay_numbers.Goals as goal

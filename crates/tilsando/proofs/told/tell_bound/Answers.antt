@@ -8,10 +8,10 @@ pub code-requires : goal.code-requires
 code-requires c = c.requires _ c.in-Refused.is
 
 pub returns-in-AtMost : goal.returns-in-AtMost
-returns-in-AtMost c =     told_as _ _ _ _ _ _ (ap bound_values (sym c.in-AtMost.is)) c.tell_number.ensures
+returns-in-AtMost c = told_as _ _ _ _ _ _ (ap bound_values (sym c.in-AtMost.is)) c.tell_number.ensures
 
 pub returns-in-Over : goal.returns-in-Over
-returns-in-Over c =     told_as _ _ _ _ _ _ (ap bound_values (sym c.in-Over.is)) c.tell_number-in-Over.ensures
+returns-in-Over c = told_as _ _ _ _ _ _ (ap bound_values (sym c.in-Over.is)) c.tell_number-in-Over.ensures
 
 pub returns-in-Refused : goal.returns-in-Refused
 returns-in-Refused c = told_as _ _ _ _ _ _ (ap bound_values (sym c.in-Refused.is)) (told_refused _ _ _ _ c.code.ensures)

@@ -11,7 +11,7 @@ pub returns-in-Refused : goal.returns-in-Refused
 returns-in-Refused c = told_as _ _ _ _ _ _ (ap (report_values c.args.a) (sym c.in-Refused.is)) (told_refused _ _ _ _ c.code.ensures)
 
 pub returns-in-Given : goal.returns-in-Given
-returns-in-Given c =     told_as _ _ _ _ _ _ (ap (report_values c.args.a) (sym c.in-Given.is))
+returns-in-Given c = told_as _ _ _ _ _ _ (ap (report_values c.args.a) (sym c.in-Given.is))
     (told_row _ _ _ _ _ _ _ _ _ c.lay_flags.ensures.0 c.lay_flags.ensures.1
     (told_row _ _ _ _ _ _ _ _ _ c.lay_counts.ensures.0 c.lay_counts.ensures.1
     (told_row _ _ _ _ _ _ _ _ _ c.lay_counts-in-Given.ensures.0 c.lay_counts-in-Given.ensures.1
