@@ -1,4 +1,4 @@
-// Instructions prepared for a search, in which a constant is its offset from C1 (specs/inner/Op.antt).
+// Instructions prepared for a search, in which a constant is its offset from C1 (specs/Inner/Op.antt).
 
 ghost use Rattle.std.specs.Prelude.{◌≡◌, ◌-◌, min};
 ghost use Rattle.flow.specs.Words.{count};

@@ -1,4 +1,4 @@
-// The tables of outside patterns (document 02, T-06), and the row in which a search looks them up (specs/inner/Table.antt).
+// The tables of outside patterns (document 02, T-06), and the row in which a search looks them up (specs/Inner/Table.antt).
 //
 // A constant is copied wherever it is read, so the row is made once for a search and lent.
 #![tactic(auto)]
@@ -12,7 +12,7 @@ ghost use Rattle.outside.specs.Outside.{eight, outside};
 ghost use Rattle.outside_row.specs.Inner.Table.{rank_number, entries_for, IsEntry, key_of, slot_of, first_of, HasEntry, IsTable, key_at, place_in};
 ghost use Rattle.outside_row.specs.Inner.Filling.{LoadedTo, ones_of};
 
-// The sizes of the row (specs/inner/Table.antt).
+// The sizes of the row (specs/Inner/Table.antt).
 #[derive(Clone, Copy)]
 pub struct Table;
 

@@ -1,4 +1,4 @@
-// The pattern word: four codes, stored as digits of 16 bits (specs/inner/Pattern.antt).
+// The pattern word: four codes, stored as digits of 16 bits (specs/Inner/Pattern.antt).
 //
 // w says how many whole numbers there are from C1 to C2; `table` is the row of crate outside_row, lent to all that looks into a pattern.
 // Codes are read, written, compared and ranked by `recall`, `store`, `less` and `codes`, and nowhere else. The ranks of variables outside are

@@ -1,5 +1,5 @@
-// Passes over the entries of a finished table of configurations (specs/inner/Table.antt): the distances of all exits, the entry that is nearest to
-// one exit, and how many records each tape yields on the way to an entry. What they find is said in specs/inner/Passes.antt and specs/inner/Way.antt;
+// Passes over the entries of a finished table of configurations (specs/Inner/Table.antt): the distances of all exits, the entry that is nearest to
+// one exit, and how many records each tape yields on the way to an entry. What they find is said in specs/Inner/Passes.antt and specs/Inner/Way.antt;
 // the laws of proofs/ lead from there to the distances and the count of configurations of document 01.
 #![tactic(auto)]
 
