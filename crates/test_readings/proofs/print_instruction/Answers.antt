@@ -1,5 +1,4 @@
 -- `print_instruction` prints at most four numbers, as many as its kind has.
-use Prim.Native.Nat.{◌-◌}
 use native.Mathlib.Omega.{arith}
 use Rattle.flow.proofs.RowLaws.{width-bound}
 use Rattle.test_readings.proofs.print_instruction.Goals as goal
