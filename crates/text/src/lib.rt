@@ -140,7 +140,8 @@ fn read_natural(f: &[u8]) -> Number
     if f.len() == 1 {
         return read_digits(f);
     }
-    if f[0] == b'0' {
+    let zero = f[0] == b'0';
+    if zero {
         return Number::Bad;
     }
     read_digits(f)

@@ -13,11 +13,11 @@ pub returns-then-f-eq1 : goal.returns-then-f-eq1
 returns-then-f-eq1 c = let f = c.args.f.now in
     c.read_digits.ensures ∙ sym (ap answer (natural-one f c.if-f-eq1.true))
 
-pub returns-then-f-eq48 : goal.returns-then-f-eq48
+pub returns-then-zero : goal.returns-then-zero
 unfolding capped_number
-returns-then-f-eq48 c = let f = c.args.f.now in
-    sym (ap answer (natural-zero f (omega arith) c.if-f-eq48.true))
+returns-then-zero c = let f = c.args.f.now in
+    sym (ap answer (natural-zero f (omega arith) c.if-zero.true))
 
 pub returns : goal.returns
 returns c = let f = c.args.f.now in
-    c.read_digits-2.ensures ∙ sym (ap answer (natural-more f (omega arith) c.if-f-eq48.false))
+    c.read_digits-2.ensures ∙ sym (ap answer (natural-more f (omega arith) c.if-zero.false))
