@@ -48,13 +48,13 @@ module _ {parents : List ℕ} {n at : ℕ} (ps : Parents parents n) (l : at < n)
   pub depth_small : {s : ℕ} → Depth parents at s → s ≤ at
   depth_small {s} d = omega (arith, ancestor_falls s d.later)
 
--- ---- the way, written from its end: path holds the entries from step t on, and i comes next
+-- ---- the way, written from its end: path holds the entries of the steps after t, and entry i comes next
 pub record Tracing (parents path : List ℕ) (at steps i t : ℕ) : Type 0 where
-  pub below : t ≤ steps + 1
-  pub next : (s : ℕ) → s + t ≡ steps + 1 → ancestor parents s at ≡ i
-  pub written : (s u : ℕ) → t ≤ u → s + u ≡ steps → get_or path u 0 ≡ ancestor parents s at
+  pub below : t ≤ steps
+  pub next : (s : ℕ) → s + t ≡ steps → ancestor parents s at ≡ i
+  pub written : (s u : ℕ) → t < u → s + u ≡ steps → get_or path u 0 ≡ ancestor parents s at
 
-pub trace_start : (parents path : List ℕ) (at steps : ℕ) → Tracing parents path at steps at (steps + 1)
+pub trace_start : (parents path : List ℕ) (at steps : ℕ) → Tracing parents path at steps at steps
 unfolding ancestor
 trace_start parents path at steps =
     record {
@@ -64,29 +64,31 @@ trace_start parents path at steps =
     }
 
 module _ {parents path : List ℕ} {at steps i t : ℕ} (h : Tracing parents path at steps i t) where
-  pub trace_more : 0 < t → t - 1 < length path → (j : ℕ) → j ≡ get_or parents i 0 → Tracing parents (set path (t - 1) i) at steps j (t - 1)
+  -- with the entry of step t written
+  step_written : t < length path → (s u : ℕ) → t ≤ u → s + u ≡ steps → get_or (set path t i) u 0 ≡ ancestor parents s at
+  step_written room s u a x = go (ℕ_discrete u t)
+    where
+      go : Dec (u ≡ t) → get_or (set path t i) u 0 ≡ ancestor parents s at
+      go (yes y) = ap (λ (v : ℕ). get_or (set path t i) v 0) y ∙ get_or-set_same path t i 0 room ∙ sym (h.next s (omega arith))
+      go (no y) = get_or-set_other path t u i 0 y ∙ h.written s u (omega arith) x
+
+  pub trace_more : 0 < t → t < length path → (j : ℕ) → j ≡ get_or parents i 0 → Tracing parents (set path t i) at steps j (t - 1)
   trace_more more room j e =
       record {
         below = omega (arith, h.below);
-        next = λ s x.
-            up parents (s - 1) at (omega (arith, h.below)) ∙ ap (λ (v : ℕ). get_or parents v 0) (h.next (s - 1) (omega (arith, h.below))) ∙ sym e;
-        written = λ s u a x. go s u a x (ℕ_discrete u (t - 1));
+        next = λ s x. up parents (s - 1) at (omega (arith, h.below)) ∙ ap (λ (v : ℕ). get_or parents v 0) (h.next (s - 1) (omega arith)) ∙ sym e;
+        written = λ s u a x. step_written room s u (omega arith) x;
       }
-    where
-      go : (s u : ℕ) → t - 1 ≤ u → s + u ≡ steps → Dec (u ≡ t - 1) → get_or (set path (t - 1) i) u 0 ≡ ancestor parents s at
-      go s u a x (yes y) =
-          ap (λ (v : ℕ). get_or (set path (t - 1) i) v 0) y ∙ get_or-set_same path (t - 1) i 0 room ∙ sym (h.next s (omega arith))
-      go s u a x (no y) = get_or-set_other path (t - 1) u i 0 y ∙ h.written s u (omega arith) x
 
   module _ {n : ℕ} (ps : Parents parents n) (l : at < n) (d : Depth parents at steps) where
-    pub trace_before : 0 < t → i ≤ at
-    trace_before more =
-        let s = steps + 1 - t in
+    pub trace_before : i ≤ at
+    trace_before =
+        let s = steps - t in
         omega (arith, h.next s (omega (arith, h.below)), ancestor_falls ps l s (λ u m. d.later u (omega arith)))
 
-    pub trace_end : t ≤ 0 → Traced parents path n at steps
+    pub trace_end : t ≤ 0 → t < length path → Traced parents (set path t i) n at steps
     unfolding ancestor
-    trace_end z =
+    trace_end z room =
         record {
           starts = is steps 0 (omega arith) ∙ d.first;
           ends = is 0 steps (omega arith);
@@ -97,8 +99,8 @@ module _ {parents path : List ℕ} {at steps i t : ℕ} (h : Tracing parents pat
               ∙ sym (up parents (steps - u - 1) at {m = steps - u} (omega arith)) ∙ sym (is (steps - u) u (omega arith));
         }
       where
-        is : (s u : ℕ) → s + u ≡ steps → get_or path u 0 ≡ ancestor parents s at
-        is s u = h.written s u (omega arith)
+        is : (s u : ℕ) → s + u ≡ steps → get_or (set path t i) u 0 ≡ ancestor parents s at
+        is s u = step_written room s u (omega arith)
 
 -- ---- in the cells: only the field of the way changes
 pub record TracingIn (c₀ c : List (List ℕ)) (at steps i t : ℕ) : Type 0 where
@@ -106,13 +108,19 @@ pub record TracingIn (c₀ c : List (List ℕ)) (at steps i t : ℕ) : Type 0 wh
   pub only : Only way_field c₀ c
   pub size : length c ≡ length c₀
 
-pub traced_more : (c₀ c c' : List (List ℕ)) {at steps i t : ℕ} (j : ℕ) → TracingIn c₀ c at steps i t → 0 < t → t - 1 < length c
-    → Stored way_field (t - 1) i c c' → length c' ≡ length c → j ≡ get_or (column parent_field c') i 0 → TracingIn c₀ c' at steps j (t - 1)
-traced_more c₀ c c' {at} {steps} {i} {t} j h more room s size e =
-    record {
-      tracing = subst (λ (q : List ℕ). Tracing (column parent_field c₀) q at steps j (t - 1)) (sym s.is)
-          (trace_more h.tracing more (omega (arith, length-column way_field c)) j
-          (e ∙ ap (λ (q : List ℕ). get_or q i 0) (s.other parent_field (omega arith) ∙ h.only parent_field (omega arith))));
-      only = λ g n. s.other g n ∙ h.only g n;
-      size = size ∙ h.size;
-    }
+module _ (c₀ c c' : List (List ℕ)) {at steps i t : ℕ} (h : TracingIn c₀ c at steps i t) (room : t < length c) (s : Stored way_field t i c c') where
+  pub traced_more : (j : ℕ) → 0 < t → length c' ≡ length c → j ≡ get_or (column parent_field c') i 0 → TracingIn c₀ c' at steps j (t - 1)
+  traced_more j more size e =
+      record {
+        tracing = subst (λ (q : List ℕ). Tracing (column parent_field c₀) q at steps j (t - 1)) (sym s.is)
+            (trace_more h.tracing more (omega (arith, length-column way_field c)) j
+            (e ∙ ap (λ (q : List ℕ). get_or q i 0) (s.other parent_field (omega arith) ∙ h.only parent_field (omega arith))));
+        only = λ g n. s.other g n ∙ h.only g n;
+        size = size ∙ h.size;
+      }
+
+  pub traced_all : {n : ℕ} → Parents (column parent_field c₀) n → at < n → Depth (column parent_field c₀) at steps → t ≤ 0
+      → Traced (column parent_field c₀) (column way_field c') n at steps
+  traced_all {n} ps l d z =
+      subst (λ (q : List ℕ). Traced (column parent_field c₀) q n at steps) (sym s.is)
+      (trace_end h.tracing ps l d z (omega (arith, length-column way_field c)))

@@ -2,7 +2,7 @@
 // and zeroed; the way of parents to an entry is written out. What the nodes mean, and which leads to which, is not known here.
 #![tactic(auto)]
 
-ghost use Rattle.std.specs.Prelude.{◌≡◌, ◌+◌, ◌*◌, ◌/◌, ◌%◌, ◌<◌, ◌≤◌, min, length, get_or, set};
+ghost use Rattle.std.specs.Prelude.{◌≡◌, ◌+◌, ◌*◌, ◌/◌, ◌%◌, ◌<◌, ◌≤◌, length, get_or, set};
 ghost use Rattle.cells.specs.Cells.{cell_words, most_cells, cells_of, zeroed};
 ghost use Rattle.cells.specs.Inner.Columns.{half, place_field, pattern_field, distance_field, parent_field, marks_field, way_field, column, word_column, columns_of, Only, Stored, Entered};
 ghost use Rattle.cells.specs.Inner.Index.{node, fold_of, bucket_of, FoundIs};
@@ -13,15 +13,9 @@ ghost use Rattle.cells.specs.Inner.Way.{Parents, Depth, Traced};
 // How many numbers half a word holds.
 const HALF: u64 = 4294967296;
 
-#[derive(Clone, Copy)]
-pub enum Found {
-    At(usize),
-    Nothing,
-}
-
 // A cell: its words, and which field is where. A place and a pattern take two words each, the lower half first. The way of a sample takes the
 // place of the marks, which only a search needs.
-#[derive(Clone, Copy)]
+#[derive(Clone, Copy, Debug, PartialEq, Eq)]
 pub struct Cell;
 
 impl Cell {
@@ -56,12 +50,6 @@ pub fn wide(x: u32) -> usize
     x as usize
 }
 
-fn lesser(a: usize, b: usize) -> usize
-    ensures { result ≡ min a b }
-{
-    if a < b { a } else { b }
-}
-
 // ---- the fields of a cell
 fn low(x: u64) -> u32
     ensures { result ≡ x % half }
@@ -80,11 +68,6 @@ fn join(low: u32, high: u32) -> u64
 {
     low as u64 + high as u64 * HALF
 }
-
-// Says how long a cell is.
-fn whole(c: [u32; Cell::WORDS])
-    ensures { length c ≡ cell_words }
-{}
 
 // Field f of cell i.
 pub fn get(cells: &[[u32; Cell::WORDS]], i: usize, f: usize) -> u32
@@ -107,7 +90,6 @@ pub fn put(cells: &mut [[u32; Cell::WORDS]], i: usize, f: usize, x: u32)
     requires { (i < length cells.old) × (f < cell_words) }
     ensures { Stored f i x cells.old cells.new }
 {
-    whole(cells[i]);
     cells[i][f] = x;
 }
 
@@ -116,21 +98,18 @@ pub fn put(cells: &mut [[u32; Cell::WORDS]], i: usize, f: usize, x: u32)
 pub fn cells_of(cells: &[[u32; Cell::WORDS]]) -> usize
     ensures { result ≡ cells_of cells.now }
 {
-    lesser(Cell::MOST, cells.len())
+    Cell::MOST.min(cells.len())
 }
 
 // Zeroes every word of every cell.
 pub fn clear(cells: &mut [[u32; Cell::WORDS]])
     ensures { cells.new ≡ zeroed cells.old }
 {
-    let mut i = 0;
-    while i < cells.len() {
-        cells[i] = [0; Cell::WORDS];
-        i += 1;
-    }
+    cells.fill([0; Cell::WORDS]);
 }
 
 // ---- the index
+#[tactic(auto, unfolding(crate::specs::Inner::Index::fold_of))]
 fn fold(x: u64) -> u64
     ensures { result ≡ fold_of x }
 {
@@ -159,17 +138,16 @@ fn first(cells: &[[u32; Cell::WORDS]], count: usize, size: usize, b: usize) -> u
     ensures { LatestIn cells.now count size b result }
 {
     let head = get(cells, b, Cell::HEAD);
-    let h = wide(head);
-    if h == 0 {
+    let h = head as usize;
+    let past = count < h;
+    if h == 0 || past {
         return 0;
     }
-    if count < h {
-        return 0;
+    if get(cells, h - 1, Cell::BUCKET) as usize == b {
+        head
+    } else {
+        0
     }
-    if wide(get(cells, h - 1, Cell::BUCKET)) == b {
-        return head;
-    }
-    0
 }
 
 // Where the node is stored among the first count entries.
@@ -179,22 +157,20 @@ pub fn find(
     size: usize,
     place: u64,
     pattern: u64,
-) -> Found
+) -> Option<usize>
     requires { FilledIn cells.now count size }
     ensures { FoundIs (word_column place_field cells.now) (word_column pattern_field cells.now) count (node place pattern) result }
 {
     let h = bucket(place, pattern, size);
-    let mut cur = wide(first(cells, count, size, h));
+    let mut cur = first(cells, count, size, h) as usize;
     while 0 < cur {
         let i = cur - 1;
-        if word(cells, i, Cell::PLACE) == place {
-            if word(cells, i, Cell::PATTERN) == pattern {
-                return Found::At(i);
-            }
+        if word(cells, i, Cell::PLACE) == place && word(cells, i, Cell::PATTERN) == pattern {
+            return Some(i);
         }
-        cur = wide(get(cells, i, Cell::NEXT));
+        cur = get(cells, i, Cell::NEXT) as usize;
     }
-    Found::Nothing
+    None
 }
 
 // ---- the entries
@@ -213,7 +189,6 @@ fn enter(
     ensures { Entered i place pattern distance parent next bucket cells.old cells.new }
 {
     let mut c = cells[i];
-    whole(c);
     c[Cell::PLACE] = low(place);
     c[Cell::PLACE + 1] = high(place);
     c[Cell::PATTERN] = low(pattern);
@@ -261,6 +236,7 @@ pub fn begin(cells: &mut [[u32; Cell::WORDS]], size: usize, place: u64, pattern:
 }
 
 // Whether entry i is marked for variable v.
+#[tactic(auto, unfolding(crate::specs::Inner::Marks::is_marked))]
 pub fn marked(cells: &[[u32; Cell::WORDS]], i: usize, v: usize) -> bool
     requires { (i < length cells.now) × (v < 32) }
     ensures { result ≡ is_marked (column marks_field cells.now) i v }
@@ -269,6 +245,7 @@ pub fn marked(cells: &[[u32; Cell::WORDS]], i: usize, v: usize) -> bool
 }
 
 // Marks entry i for variable v.
+#[tactic(auto, using(crate::proofs::Marking::shifted_one), unfolding(crate::specs::Inner::Marks::marking))]
 pub fn mark(cells: &mut [[u32; Cell::WORDS]], i: usize, v: usize)
     requires { (i < length cells.old) × (v < 32) }
     ensures cells_after { column marks_field cells.new ≡ marking (column marks_field cells.old) i v }
@@ -286,8 +263,9 @@ pub fn depth(cells: &[[u32; Cell::WORDS]], n: usize, at: usize) -> usize
 {
     let mut i = at;
     let mut s = 0;
+    // Kept: s counts the steps of a walk that ends at the first entry; it is no index.
     while 0 < i {
-        i = wide(get(cells, i, Cell::PARENT));
+        i = get(cells, i, Cell::PARENT) as usize;
         s += 1;
     }
     s
@@ -302,10 +280,8 @@ pub fn trace(cells: &mut [[u32; Cell::WORDS]], n: usize, at: usize, steps: usize
     ensures only { Only way_field cells.old cells.new }
 {
     let mut i = at;
-    let mut t = steps + 1;
-    while 0 < t {
-        t -= 1;
+    for t in (0..=steps).rev() {
         put(cells, t, Cell::WAY, i as u32);
-        i = wide(get(cells, i, Cell::PARENT));
+        i = get(cells, i, Cell::PARENT) as usize;
     }
 }

@@ -1,5 +1,5 @@
 -- Prepared instructions: a row's kind decides what it is. Each law on the kinds is one computed test over the table of flow.
-use mathlib.Core.Path.{◌≡◌, refl, sym, ap, subst, ◌∙◌}
+use mathlib.Core.Path.{◌≡◌, refl, sym, subst, ◌∙◌}
 use mathlib.Core.Bool.{Bool, true, false, cond, not, ◌&&◌, false≢true}
 use mathlib.Core.List.{List, [], ◌∷◌, map}
 use Prim.Native.Nat.{ℕ, zero, suc, ◌+◌, ◌≤◌, min}
@@ -67,10 +67,6 @@ module _ (lo : ℤ) (x : Row) (bytes : FitBytes x) where
       ∙ sym (formed-only n u v k)
       ∙ (λ i. formed k (n 0) (n 1) (n 2) (n 3) (eu i) (ev i))
       ∙ formed_op lo (numbers_in x) k
-
--- an arm of the match on the kind
-pub formed_by : (k k' : Kind) (a b c d u v : ℕ) {r : Op} → r ≡ formed k' a b c d u v → k ≡ k' → r ≡ formed k a b c d u v
-formed_by k k' a b c d u v h e = h ∙ ap (λ (j : Kind). formed j a b c d u v) (sym e)
 
 -- the constant of a prepared instruction is that of the instruction, prepared; 0 where there is none
 pub op_constant : (lo : ℤ) (i : Instruction) → (op_of lo i).constant ≡ get_or (map (λ c. offset c lo) (constants (fields i))) 0 0

@@ -13,23 +13,14 @@ use flow::{Instruction, Kind};
 fn from_zero(n: u8) -> u8
     ensures { result ≡ n - 1 }
 {
-    if n == 0 {
-        return 0;
-    }
-    n - 1
+    n.saturating_sub(1)
 }
 
 // A number that counts, in a byte; a legal flow has none that is larger.
 fn byte(n: i32) -> u8
     ensures { result ≡ min (count n) 255 }
 {
-    if n < 0 {
-        return 0;
-    }
-    if 255 < n {
-        return 255;
-    }
-    n as u8
+    n.clamp(0, 255) as u8
 }
 
 // The prepared form of a kind: a, b, c, d are the numbers of the line as counts, u and v the first two as constants, prepared already.
@@ -37,33 +28,15 @@ fn form(kind: Kind, a: u8, b: u8, c: u8, d: u8, u: u32, v: u32) -> Op
     ensures { result ≡ formed kind a b c d u v }
 {
     match kind {
-        Kind::Read => {
-            return Op::read(from_zero(a), from_zero(b), c, d);
-        }
-        Kind::Put => {
-            return Op::go(c);
-        }
-        Kind::Copy => {
-            return Op::assign(from_zero(a), from_zero(b), 0, c);
-        }
-        Kind::Set => {
-            return Op::assign(Op::CONSTANT, from_zero(b), u, c);
-        }
-        Kind::Less => {
-            return Op::test(from_zero(a), from_zero(b), 0, c, d);
-        }
-        Kind::Over => {
-            return Op::test(Op::CONSTANT, from_zero(b), u, c, d);
-        }
-        Kind::Under => {
-            return Op::test(from_zero(a), Op::CONSTANT, v, c, d);
-        }
-        Kind::Nop => {
-            return Op::go(a);
-        }
-        Kind::Stop => {
-            return Op::stop();
-        }
+        Kind::Read => Op::read(from_zero(a), from_zero(b), c, d),
+        Kind::Put => Op::go(c),
+        Kind::Copy => Op::assign(from_zero(a), from_zero(b), 0, c),
+        Kind::Set => Op::assign(Op::CONSTANT, from_zero(b), u, c),
+        Kind::Less => Op::test(from_zero(a), from_zero(b), 0, c, d),
+        Kind::Over => Op::test(Op::CONSTANT, from_zero(b), u, c, d),
+        Kind::Under => Op::test(from_zero(a), Op::CONSTANT, v, c, d),
+        Kind::Nop => Op::go(a),
+        Kind::Stop => Op::stop(),
     }
 }
 
@@ -78,6 +51,5 @@ pub fn prepare(x: Instruction, lo: i32) -> Op
     let d = byte(x.fourth);
     let u = constants::offset_of(x.first, lo);
     let v = constants::offset_of(x.second, lo);
-    let kind = x.kind;
-    form(kind, a, b, c, d, u, v)
+    form(x.kind, a, b, c, d, u, v)
 }

@@ -14,6 +14,7 @@ use borrow.Author.Tests.{ltb-true, ltb-false}
 use mir.Syntax.{w32}
 use mir.Val.{SFits, to_z, of_z}
 use mir.Facts.{to_z-of_z}
+use Rattle.std.specs.Int.{int_max}
 use Rattle.model.specs.Language.{Instruction, fields, constants, all_constants, least, greatest, C1, C2}
 use Rattle.model.proofs.Integers.{zarith}
 use Rattle.flow.specs.Code.{row as row_by}
@@ -29,6 +30,16 @@ lesser c r = cond (lt_z c r) c r
 
 abbrev pub greater : ℤ → ℤ → ℤ
 greater c r = cond (lt_z r c) c r
+
+-- the greater of two, as the library says it
+pub max_greater : (c r : ℤ) → int_max r c ≡ greater c r
+max_greater c r = go (lt_z c r) (lt_z r c) refl refl
+  where
+    go : (a b : Bool) → lt_z c r ≡ a → lt_z r c ≡ b → cond a r c ≡ cond b c r
+    go true true h k = absurd (omega zarith)
+    go true false h k = refl
+    go false true h k = refl
+    go false false h k = omega zarith
 
 -- ---- least and greatest, one instruction at a time
 least-below : (cs : List ℤ) → T (le_z (least cs) (pos 0))
@@ -133,9 +144,3 @@ module _ (flow : Rows) (i : ℕ) (h : i < flow.count) (f : List ℤ → ℤ) (g 
   pub rest_further : (k r l : ℤ) → SFits w32 k → SFits w32 r → k ≡ constant_in (instruction_of row) → l ≡ f (extremes_rest flow (suc i)) →
       r ≡ g (to_z w32 (of_z w32 k)) l → to_z w32 (of_z w32 r) ≡ f (extremes_rest flow i)
   rest_further k r l fk fr ek el er = to_z-of_z fr ∙ er ∙ ap₂ g (to_z-of_z fk ∙ ek) el ∙ sym fold-row
-
-pub picked_left : (b : Bool) (x y : ℤ) → b ≡ true → x ≡ cond b x y
-picked_left b x y e = rw e
-
-pub picked_right : (b : Bool) (x y : ℤ) → b ≡ false → y ≡ cond b x y
-picked_right b x y e = rw e

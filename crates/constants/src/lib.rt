@@ -1,17 +1,17 @@
 // The constants of a flow: C1 and C2, how many whole numbers there are from C1 to C2, and how far a constant lies above C1.
 #![tactic(auto)]
 
-ghost use Rattle.std.specs.Prelude.{◌≡◌, cond, ◌≤◌};
+ghost use Rattle.std.specs.Prelude.{◌≡◌, ◌≤◌};
 ghost use Rattle.model.specs.Language.{C1, C2};
 ghost use Rattle.model.specs.Pattern.{width_of};
 ghost use Rattle.flow.specs.Limits.{max_instructions};
 ghost use Rattle.flow.specs.Inner.Rows.{instruction_of, flow_of};
 ghost use Rattle.constants.specs.Inner.Constants.{offset, constant_in};
 
-use flow::{Flow, Instruction, words};
+use flow::{Flow, Instruction};
 
 // The least and the greatest basic constant.
-#[derive(Clone, Copy)]
+#[derive(Clone, Copy, Debug, PartialEq, Eq)]
 pub struct Range {
     pub lo: i32,
     pub hi: i32,
@@ -22,10 +22,7 @@ pub fn offset_of(c: i32, lo: i32) -> u32
     ensures { result ≡ offset c lo }
 {
     let d = c as i64 - lo as i64;
-    if d < 0 {
-        return 0;
-    }
-    d as u32
+    if d < 0 { 0 } else { d as u32 }
 }
 
 // How many whole numbers there are from lo to hi.
@@ -39,22 +36,12 @@ pub fn width(range: Range) -> u64
 fn constant(x: Instruction) -> i32
     ensures { result ≡ constant_in (instruction_of x) }
 {
-    let kind = x.kind;
-    for k in 0..words::width(kind) {
-        if words::may_minus(words::sort_at(kind, k)) {
+    for (k, sort) in x.kind.sorts().iter().enumerate() {
+        if sort.may_minus() {
             return x.number(k);
         }
     }
     0
-}
-
-fn pick(b: bool, x: i32, y: i32) -> i32
-    ensures { result ≡ cond b x y }
-{
-    if b {
-        return x;
-    }
-    y
 }
 
 // C1 and C2 of a flow.
@@ -64,13 +51,10 @@ pub fn range_of(flow: Flow) -> Range
 {
     let mut lo: i32 = 0;
     let mut hi: i32 = 0;
-    let mut i = flow.count;
-    while 0 < i {
-        i -= 1;
-        let x = flow.instructions[i];
-        let c = constant(x);
-        lo = pick(c < lo, c, lo);
-        hi = pick(hi < c, c, hi);
+    for i in (0..flow.count).rev() {
+        let c = constant(flow.instructions[i]);
+        lo = lo.min(c);
+        hi = hi.max(c);
     }
     Range { lo, hi }
 }

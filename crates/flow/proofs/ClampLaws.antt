@@ -7,7 +7,7 @@ use Prim.Native.Nat.{ℕ, suc, ◌<◌}
 use native.Mathlib.Omega.{arith}
 use borrow.Author.Tests.{ltb-true, le-ltb, lt-leb}
 use lib.Dec.{T, leb, ltb}
-use mathlib.Core.Option.{Option, none, some}
+use Rattle.std.specs.Prelude.{Option, None, Some}
 use Rattle.model.proofs.Integers.{zarith, true_in}
 use lib.IntN.{ℤ, pos, negsuc}
 use lib.Signed.{le_z}
@@ -46,8 +46,8 @@ abbrev pub FourDigits : ℤ → Type 0
 FourDigits z = T (le_z (negsuc 9998) z) × T (le_z z (pos 9999))
 
 abbrev FourDigitRange : Option (ℤ × ℤ) → Type 0
-FourDigitRange none = Unit {0}
-FourDigitRange (some (lo, hi)) = T (le_z (negsuc 9998) lo) × T (le_z hi (pos 9999))
+FourDigitRange None = Unit {0}
+FourDigitRange (Some (lo, hi)) = T (le_z (negsuc 9998) lo) × T (le_z hi (pos 9999))
 
 false_of : (b : Bool) → (T b → ⊥) → b ≡ false
 false_of true f = absurd (f tt)
@@ -55,19 +55,19 @@ false_of false f = refl
 
 between-kept : (r : Option (ℤ × ℤ)) → FourDigitRange r → (z : ℤ) → between r (bounded z) ≡ between r z
 unfolding bounded
-between-kept none t z = refl
-between-kept (some (lo, hi)) (low, high) (pos n) = go (ltb 100000 n) refl
+between-kept None t z = refl
+between-kept (Some (lo, hi)) (low, high) (pos n) = go (ltb 100000 n) refl
   where
-    go : (b : Bool) → ltb 100000 n ≡ b → between (some (lo, hi)) (cond b (pos 100000) (pos n)) ≡ between (some (lo, hi)) (pos n)
+    go : (b : Bool) → ltb 100000 n ≡ b → between (Some (lo, hi)) (cond b (pos 100000) (pos n)) ≡ between (Some (lo, hi)) (pos n)
     go true h =
         let past : le_z (pos 100000) hi ≡ false = false_of (le_z (pos 100000) hi) (λ t. omega (zarith, high, t)) in
         let more = ltb-true 100000 n h in
         let past-too : le_z (pos n) hi ≡ false = false_of (le_z (pos n) hi) (λ t. omega (zarith, high, more, t)) in
         rw (past, past-too) (and_false (le_z lo (pos 100000)) ∙ sym (and_false (le_z lo (pos n))))
     go false h = refl
-between-kept (some (lo, hi)) (low, high) (negsuc n) = go (ltb 99999 n) refl
+between-kept (Some (lo, hi)) (low, high) (negsuc n) = go (ltb 99999 n) refl
   where
-    go : (b : Bool) → ltb 99999 n ≡ b → between (some (lo, hi)) (cond b (negsuc 99999) (negsuc n)) ≡ between (some (lo, hi)) (negsuc n)
+    go : (b : Bool) → ltb 99999 n ≡ b → between (Some (lo, hi)) (cond b (negsuc 99999) (negsuc n)) ≡ between (Some (lo, hi)) (negsuc n)
     go true h =
         let past : le_z lo (negsuc 99999) ≡ false = false_of (le_z lo (negsuc 99999)) (λ t. omega (zarith, low, t)) in
         let more = ltb-true 99999 n h in
@@ -75,7 +75,7 @@ between-kept (some (lo, hi)) (low, high) (negsuc n) = go (ltb 99999 n) refl
         rw (past, past-too)
     go false h = refl
 
-four-digits : (lo hi : ℤ) → FourDigitRange (some (lo, hi)) → (z : ℤ) → between (some (lo, hi)) z ≡ true → FourDigits z
+four-digits : (lo hi : ℤ) → FourDigitRange (Some (lo, hi)) → (z : ℤ) → between (Some (lo, hi)) z ≡ true → FourDigits z
 four-digits lo hi (low, high) z e =
     let (a, b) = and_split (le_z lo z) (le_z z hi) e in
     let least = true_in (le_z lo z) a in
@@ -143,16 +143,16 @@ module _ (h : Head) (f : HeadFits h) (n : ℕ) (l : n < 255) where
   field-digits x = by (bounds h (sort x)) (targets n (sort x)) (few-digits (sort x)) (ranged (sort x))
     where
       has : Option (ℤ × ℤ) → Bool
-      has none = false
-      has (some r) = true
+      has None = false
+      has (Some r) = true
 
       ranged : (s : Sort) → (has (bounds h s) || has (targets n s)) ≡ true
       ranged = tried_sort (λ s. has (bounds h s) || has (targets n s)) (λ s. true) refl
 
       by : (r s : Option (ℤ × ℤ)) → FourDigitRange r × FourDigitRange s → (has r || has s) ≡ true → between r (number x) ≡ true → between s (number x) ≡ true → FourDigits (number x)
-      by (some (lo, hi)) s t e p q = four-digits lo hi t.0 (number x) p
-      by none (some (lo, hi)) t e p q = four-digits lo hi t.1 (number x) q
-      by none none t e p q = absurd (false≢true e)
+      by (Some (lo, hi)) s t e p q = four-digits lo hi t.0 (number x) p
+      by None (Some (lo, hi)) t e p q = four-digits lo hi t.1 (number x) q
+      by None None t e p q = absurd (false≢true e)
 
   fields-kept : (fs : List Field) → all (in_range h) fs ≡ true → all (is_named n) fs ≡ true → map bounded (map number fs) ≡ map number fs
   unfolding all

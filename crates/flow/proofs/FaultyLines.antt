@@ -2,7 +2,7 @@
 -- (document 01, "Where a request is turned back"; document 02, T-02). And texts that look empty: only one of no bytes is a flow (T-08).
 use mathlib.Core.Path.{◌≡◌, refl}
 use mathlib.Core.List.{List, [], ◌∷◌, ◌++◌, map}
-use mathlib.Core.Option.{Option, none, some, bind}
+use Rattle.std.specs.Prelude.{Option, None, Some}
 use Prim.Native.Nat.{ℕ}
 use Prim.Native.String.{String}
 use Rattle.model.specs.Language.{Flow}
@@ -12,12 +12,14 @@ use Rattle.text.specs.Number as Number
 use Rattle.flow.specs.Words as Words
 use Rattle.flow.specs.Refusals.{number_and_place}
 use Rattle.flow.specs.Read as Read
-use Rattle.flow.specs.Read.{Checked, ok, fault, read_flow}
+use Rattle.std.specs.Prelude.{Result, Ok, Err}
+use Rattle.flow.specs.Read.{read_flow}
+use Rattle.flow.specs.declared.Refusal.{Refusal}
 
 -- the number and the place of a text's refusal, if it is refused
-abbrev pub refused_by : Checked Flow → Option (ℕ × ℕ)
-refused_by (ok flow) = none
-refused_by (fault r) = some (number_and_place r)
+abbrev pub refused_by : Result Flow Refusal → Option (ℕ × ℕ)
+refused_by (Ok flow) = None
+refused_by (Err r) = Some (number_and_place r)
 
 -- a line as line 1, and as the line of instruction 1; and a whole text
 abbrev as_head : String → Option (ℕ × ℕ)
@@ -56,10 +58,10 @@ instructions =
 -- texts with their refusals
 abbrev nearly_empty : List (String × Option (ℕ × ℕ))
 nearly_empty =
-    ("", none)
-    ∷ ("\n", some (13, 1)) ∷ ("\n\n", some (13, 1)) ∷ ("\r\n", some (13, 1)) ∷ (",\n", some (13, 1))
-    ∷ (" ", some (3, 0)) ∷ ("\n ", some (3, 0)) ∷ ("flow", some (3, 0)) ∷ ("flow,1,0,1", some (3, 0))
-    ∷ ("flow,1,0,1\n", some (8, 2)) ∷ ("flow,1,0,1\n\n", some (13, 2))
+    ("", None)
+    ∷ ("\n", Some (13, 1)) ∷ ("\n\n", Some (13, 1)) ∷ ("\r\n", Some (13, 1)) ∷ (",\n", Some (13, 1))
+    ∷ (" ", Some (3, 0)) ∷ ("\n ", Some (3, 0)) ∷ ("flow", Some (3, 0)) ∷ ("flow,1,0,1", Some (3, 0))
+    ∷ ("flow,1,0,1\n", Some (8, 2)) ∷ ("flow,1,0,1\n\n", Some (13, 2))
     ∷ []
 
 -- what a line is refused by, and what it ought to be refused by, at a place
@@ -67,10 +69,10 @@ abbrev found : (String → Option (ℕ × ℕ)) → List (String × ℕ) → Lis
 found judge = map (λ (l : String × ℕ). judge l.0)
 
 abbrev ought : ℕ → List (String × ℕ) → List (Option (ℕ × ℕ))
-ought place = map (λ (l : String × ℕ). some (l.1, place))
+ought place = map (λ (l : String × ℕ). Some (l.1, place))
 
 pub faulty_lines : (found as_head heads ≡ ought 1 heads)
     × (found as_instruction instructions ≡ ought 2 instructions)
     × (map (λ (t : String × Option (ℕ × ℕ)). as_text t.0) nearly_empty ≡ map (λ (t : String × Option (ℕ × ℕ)). t.1) nearly_empty)
-unfolding Read.read_flow Read.read_bytes Read.read_rest Read.read_head Read.head_of Read.read_lines Read.read_line Read.numerals bind Read.all Words.first_named Split.lines Split.split Split.parts Split.lead Split.same_word Number.natural Number.numeral Number.negative Number.digits_after
+unfolding Read.read_flow Read.read_bytes Read.read_rest Read.read_head Read.head_of Read.read_lines Read.read_line Read.numerals Read.all Words.first_named Split.lines Split.split Split.parts Split.lead Split.same_word Number.natural Number.numeral Number.negative Number.digits_after
 faulty_lines = (refl, refl, refl)

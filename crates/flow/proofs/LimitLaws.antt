@@ -3,7 +3,7 @@
 use mathlib.Core.Path.{◌≡◌, refl, ◌∙◌, subst}
 use mathlib.Core.Bool.{Bool, true, false, cond, ◌&&◌}
 use mathlib.Core.List.{List, [], ◌∷◌, ◌++◌, map}
-use mathlib.Core.Option.{Option, none, some, bind}
+use Rattle.std.specs.Prelude.{Option, None, Some}
 use Prim.Native.Nat.{ℕ, suc, ◌≤◌}
 use Prim.Native.String.{String}
 use native.Mathlib.Omega.{arith}
@@ -21,7 +21,9 @@ use Rattle.text.proofs.Joined.{fields-parted}
 use Rattle.model.specs.Inner.Lists.{All}
 use Rattle.flow.specs.Limits.{max_bytes, least_constant, greatest_constant}
 use Rattle.flow.specs.Read as Read
-use Rattle.flow.specs.Read.{Checked, ok, check, after, unless, all, in_range, is_named, read_lines, lost_target, read_rest, read_flow}
+use Rattle.std.specs.Prelude.{Result, Ok}
+use Rattle.flow.specs.Read.{check, after, unless, all, in_range, is_named, read_lines, lost_target, read_rest, read_flow}
+use Rattle.flow.specs.declared.Refusal.{Refusal}
 use Rattle.flow.specs.Words as Words
 use Rattle.flow.specs.Words.{may_minus, sort, number}
 use Rattle.flow.specs.Code.{numbers}
@@ -68,7 +70,7 @@ limited-all h (i ∷ is) e =
 pub legal-constants : (flow : Flow) → Legal flow → All Limited (all_constants flow.instructions)
 legal-constants flow l = limited-all (head flow) flow.instructions (λ j. l.ranges (suc j))
 
-pub read-constants : (text : List ℕ) (flow : Flow) → read_flow text ≡ ok flow → All Limited (all_constants flow.instructions)
+pub read-constants : (text : List ℕ) (flow : Flow) → read_flow text ≡ Ok flow → All Limited (all_constants flow.instructions)
 read-constants text flow e = legal-constants flow (read-legal text flow e)
 
 -- ---- C1 and C2
@@ -103,7 +105,7 @@ with_constant c = const c 1 1 ∷ over c 1 1 1 ∷ under 1 c 1 1 ∷ []
 
 -- whether the text of the flow with an instruction is read, by a test; a text past the limit of bytes is none of these
 abbrev pub ReadIf : Bool → Instruction → Type 0
-ReadIf b x = length (write_flow (single x)) ≤ max_bytes → read_flow (write_flow (single x)) ≡ check b (OutOfRange 2) (ok (single x))
+ReadIf b x = length (write_flow (single x)) ≤ max_bytes → read_flow (write_flow (single x)) ≡ check b (OutOfRange 2) (Ok (single x))
 
 single_read : (x : Instruction) → all (is_named 1) (fields x) ≡ true → ReadIf (all (in_range (head (single x))) (fields x)) x
 unfolding read_rest read_lines lines_from lost_target
@@ -112,10 +114,10 @@ single_read x named short =
     ∙ rw (fields-parted (decimal 1) (word x ∷ map signed (numbers x)) (line_past 1 x), line_fields-read (head (single x)) 1 x)
     (by (all (in_range (head (single x))) (fields x)))
   where
-    judge : List Instruction → Checked Flow
-    judge xs = check (leb 1 (length xs)) NoInstruction (unless (lost_target (length xs) 2 xs) NoSuchTarget (ok (record { tapes = 1; outputs = 0; variables = 1; instructions = xs })))
+    judge : List Instruction → Result Flow Refusal
+    judge xs = check (leb 1 (length xs)) NoInstruction (unless (lost_target (length xs) 2 xs) NoSuchTarget (Ok (record { tapes = 1; outputs = 0; variables = 1; instructions = xs })))
 
-    by : (b : Bool) → after (after (check b (OutOfRange 2) (ok x)) (λ x. ok (x ∷ []))) judge ≡ check b (OutOfRange 2) (ok (single x))
+    by : (b : Bool) → after (after (check b (OutOfRange 2) (Ok x)) (λ x. Ok (x ∷ []))) judge ≡ check b (OutOfRange 2) (Ok (single x))
     by true = rw named
     by false = refl
 
@@ -136,12 +138,12 @@ every_constant c =
 -- constants, written, and what a line with one of them is refused by
 abbrev borders : List (String × Option (ℕ × ℕ))
 borders =
-    ("-10000", some (5, 2)) ∷ ("-9999", none) ∷ ("-1001", none) ∷ ("-1000", none)
-    ∷ ("1000", none) ∷ ("1001", none) ∷ ("9999", none) ∷ ("10000", some (5, 2))
+    ("-10000", Some (5, 2)) ∷ ("-9999", None) ∷ ("-1001", None) ∷ ("-1000", None)
+    ∷ ("1000", None) ∷ ("1001", None) ∷ ("9999", None) ∷ ("10000", Some (5, 2))
     -- numbers that 16, 32 and 64 bits take for 9999, and ten to the power of 40
-    ∷ ("75535", some (5, 2)) ∷ ("4294977295", some (5, 2)) ∷ ("18446744073709561615", some (5, 2))
-    ∷ ("10000000000000000000000000000000000000000", some (5, 2)) ∷ ("-10000000000000000000000000000000000000000", some (5, 2))
-    ∷ ("09999", some (15, 2)) ∷ ("-09999", some (15, 2)) ∷ ("+9999", some (15, 2))
+    ∷ ("75535", Some (5, 2)) ∷ ("4294977295", Some (5, 2)) ∷ ("18446744073709561615", Some (5, 2))
+    ∷ ("10000000000000000000000000000000000000000", Some (5, 2)) ∷ ("-10000000000000000000000000000000000000000", Some (5, 2))
+    ∷ ("09999", Some (15, 2)) ∷ ("-09999", Some (15, 2)) ∷ ("+9999", Some (15, 2))
     ∷ []
 
 -- a constant in each instruction that has one
@@ -151,5 +153,5 @@ in_each c = map (λ (l : List ℕ × List ℕ). refused_by (read_flow (bytes "fl
 
 pub borders_judged : map (λ (t : String × Option (ℕ × ℕ)). in_each t.0) borders
     ≡ map (λ (t : String × Option (ℕ × ℕ)). t.1 ∷ t.1 ∷ t.1 ∷ []) borders
-unfolding Read.read_flow Read.read_bytes Read.read_rest Read.read_head Read.head_of Read.read_lines Read.read_line Read.numerals bind Read.all Words.first_named Split.lines Split.split Split.parts Split.lead Split.same_word Number.natural Number.numeral Number.negative Number.digits_after Read.lost_target
+unfolding Read.read_flow Read.read_bytes Read.read_rest Read.read_head Read.head_of Read.read_lines Read.read_line Read.numerals Read.all Words.first_named Split.lines Split.split Split.parts Split.lead Split.same_word Number.natural Number.numeral Number.negative Number.digits_after Read.lost_target
 borders_judged = refl

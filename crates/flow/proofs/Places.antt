@@ -4,14 +4,15 @@
 use mathlib.Core.Path.{◌≡◌, refl, subst}
 use mathlib.Core.Bool.{Bool, true, false, cond}
 use mathlib.Core.List.{List, [], ◌∷◌}
-use mathlib.Core.Option.{Option, none, some}
+use Rattle.std.specs.Prelude.{Option, None, Some}
 use Prim.Native.Nat.{ℕ, suc, ◌+◌, ◌≤◌}
 use native.Mathlib.Omega.{arith}
 use borrow.Author.Tests.{leb-true}
 use lib.ListN.{length}
 use Rattle.model.specs.Language.{Instruction, fields}
 use Rattle.flow.specs.Limits.{max_instructions}
-use Rattle.flow.specs.Read.{Checked, ok, fault, check, given, after, unless, is_named, all, head_of, read_head, read_line, read_lines, lost_target, read_rest, read_bytes, read_flow}
+use Rattle.std.specs.Prelude.{Result, Ok, Err}
+use Rattle.flow.specs.Read.{check, given, after, unless, is_named, all, head_of, read_head, read_line, read_lines, lost_target, read_rest, read_bytes, read_flow}
 use Rattle.flow.specs.Refusals.{place_of}
 use Rattle.flow.specs.declared.Head.{Head}
 use Rattle.flow.specs.declared.Refusal.{Refusal}
@@ -19,22 +20,22 @@ use Rattle.flow.specs.declared.Refusal.TheVariants.{NoSuchTarget}
 use Rattle.flow.proofs.ReadLaws.{at-most_64}
 
 -- an answer that is no refusal, or one whose place is at most 66
-abbrev Within : {A : Type 0} → Checked A → Type 0
-Within (ok x) = Unit {0}
-Within (fault why) = place_of why ≤ max_instructions + 2
+abbrev Within : {A : Type 0} → Result A Refusal → Type 0
+Within (Ok x) = Unit {0}
+Within (Err why) = place_of why ≤ max_instructions + 2
 
 -- ---- the checks keep it
-check-within : {A : Type 0} (b : Bool) (r : Refusal) (rest : Checked A) → Within {A = A} (fault r) → (b ≡ true → Within rest) → Within (check b r rest)
+check-within : {A : Type 0} (b : Bool) (r : Refusal) (rest : Result A Refusal) → Within {A = A} (Err r) → (b ≡ true → Within rest) → Within (check b r rest)
 check-within true r rest near h = h refl
 check-within false r rest near h = near
 
-given-within : {A B : Type 0} (o : Option A) (r : Refusal) (rest : A → Checked B) → Within {A = B} (fault r) → ((x : A) → Within (rest x)) → Within (given o r rest)
-given-within none r rest near h = near
-given-within (some x) r rest near h = h x
+given-within : {A B : Type 0} (o : Option A) (r : Refusal) (rest : A → Result B Refusal) → Within {A = B} (Err r) → ((x : A) → Within (rest x)) → Within (given o r rest)
+given-within None r rest near h = near
+given-within (Some x) r rest near h = h x
 
-after-within : {A B : Type 0} (a : Checked A) (rest : A → Checked B) → Within a → ((x : A) → a ≡ ok x → Within (rest x)) → Within (after a rest)
-after-within (ok x) rest w h = h x refl
-after-within (fault r) rest w h = w
+after-within : {A B : Type 0} (a : Result A Refusal) (rest : A → Result B Refusal) → Within a → ((x : A) → a ≡ Ok x → Within (rest x)) → Within (after a rest)
+after-within (Ok x) rest w h = h x refl
+after-within (Err r) rest w h = w
 
 -- ---- the parts of a text, each with the places of its refusals
 head-within : (fs : List (List ℕ)) → Within (read_head fs)
@@ -52,12 +53,12 @@ lines-within h i (l ∷ ls) = let near : 66 ≤ max_instructions + 2 = omega ari
     search (check-within, after-within, line_within, leb-true, tt) depth 20
 
 targets-within : {A : Type 0} (count line : ℕ) (xs : List Instruction) (x : A) → line + length xs ≤ max_instructions + 2
-    → Within (unless (lost_target count line xs) NoSuchTarget (ok x))
+    → Within (unless (lost_target count line xs) NoSuchTarget (Ok x))
 unfolding lost_target
 targets-within count line [] x few = tt
 targets-within count line (y ∷ ys) x few = go (all (is_named count) (fields y)) (lost_target count (suc line) ys) (targets-within count (suc line) ys x (omega arith))
   where
-    go : (b : Bool) (o : Option ℕ) → Within (unless o NoSuchTarget (ok x)) → Within (unless (cond b o (some line)) NoSuchTarget (ok x))
+    go : (b : Bool) (o : Option ℕ) → Within (unless o NoSuchTarget (Ok x)) → Within (unless (cond b o (Some line)) NoSuchTarget (Ok x))
     go true o later = later
     go false o later = omega arith
 
@@ -77,5 +78,5 @@ unfolding read_flow
 text-within [] = tt
 text-within (b ∷ bs) = bytes-within (b ∷ bs)
 
-pub read-place : (text : List ℕ) (why : Refusal) → read_flow text ≡ fault why → place_of why ≤ max_instructions + 2
+pub read-place : (text : List ℕ) (why : Refusal) → read_flow text ≡ Err why → place_of why ≤ max_instructions + 2
 read-place text why e = subst Within e (text-within text)

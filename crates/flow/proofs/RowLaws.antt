@@ -1,16 +1,15 @@
 -- The table of instructions, and rows. What is tried of each kind in the table's order holds of every kind: so each law on the table is
 -- one computed test. A row holds an instruction and gives it back.
-use mathlib.Core.Path.{◌≡◌, refl, sym, ap, ◌∙◌}
-use mathlib.Core.Bool.{Bool, true, false, cond, ◌&&◌}
-use mathlib.Core.Option.{Option, some}
+use mathlib.Core.Logic.{inl, inr, ◌⊎◌}
+use mathlib.Core.Path.{◌≡◌, refl, sym, ◌∙◌}
+use mathlib.Core.Bool.{Bool, true, ◌&&◌}
+use Rattle.std.specs.Prelude.{Some}
 use mathlib.Core.List.{List, [], ◌∷◌, ◌++◌, map}
-use Prim.Native.Nat.{ℕ, zero, suc, ◌+◌, ◌-◌, ◌≤◌, ◌<◌}
-use native.Mathlib.Numerals.{add-one}
+use Prim.Native.Nat.{ℕ, zero, suc, ◌≤◌}
 use borrow.Author.Tests.{leb-true}
 use lib.Dec.{leb}
 use lib.IntN.{ℤ, pos}
-use lib.ListN.{length, get_or, drop, replicate, drop_of_length-le}
-use lib.Seq.{drop-cons}
+use lib.ListN.{length, get_or, replicate}
 use Rattle.model.specs.Language.{Instruction, read, put, copy, const, less, over, under, nop, stop, Field, fields}
 use Rattle.model.specs.Inner.Lists.{All}
 use Rattle.text.specs.Split.{same_word}
@@ -18,11 +17,10 @@ use Rattle.flow.specs.Words.{table, kinds, first_named, kind_of, sorts, at, buil
 use Rattle.flow.specs.Inner.Reader.{field}
 use Rattle.flow.specs.Read.{all}
 use Rattle.flow.specs.Code.{kind, numbers, row, row_of}
-use Rattle.flow.specs.Inner.Reader.{four}
+use Rattle.flow.specs.declared.Instruction.{Instruction as Row}
 use Rattle.flow.specs.declared.Kind.{Kind}
 use Rattle.flow.specs.declared.Kind.TheVariants.{Read, Put, Copy, Set, Less, Over, Under, Nop, Stop}
 use Rattle.flow.specs.declared.Sort.{Sort}
-use Rattle.flow.specs.declared.Sort.TheVariants.{Target}
 use Rattle.flow.specs.Inner.Rows.{instruction_of, numbers_in}
 
 -- the fields of some sorts that hold the numbers from place j on
@@ -57,13 +55,22 @@ kind-built zs = tried (λ k. kind (built k zs)) (λ k. k) refl
 pub fields-built : (zs : List ℤ) (k : Kind) → fields (built k zs) ≡ placed (sorts k) zs 0
 fields-built zs = tried (λ k. fields (built k zs)) (λ k. placed (sorts k) zs 0) refl
 
+-- the fields of some sorts that hold some numbers, pair by pair
+abbrev pub paired : List Sort → List ℤ → List Field
+paired [] zs = []
+paired (s ∷ ss) [] = []
+paired (s ∷ ss) (z ∷ zs) = field s z ∷ paired ss zs
+
+pub fields-paired : (x : Row) → paired (sorts x.kind) (numbers_in x) ≡ fields (instruction_of x)
+fields-paired x = tried (λ k. paired (sorts k) (numbers_in x)) (λ k. fields (built k (numbers_in x))) refl x.kind
+
 -- a kind asks for at most four numbers
 pub width-bound : (k : Kind) → length (sorts k) ≤ 4
 width-bound k = leb-true (length (sorts k)) 4 (tried (λ k. leb (length (sorts k)) 4) (λ k. true) refl k)
 
-pub word_known : (k : Kind) → kind_of (table k).word ≡ some k
+pub word_known : (k : Kind) → kind_of (table k).word ≡ Some k
 unfolding first_named same_word
-word_known = tried (λ k. kind_of (table k).word) some refl
+word_known = tried (λ k. kind_of (table k).word) Some refl
 
 -- ---- a row gives its instruction back
 pub row_back : (x : Instruction) → instruction_of (row_of x) ≡ x
@@ -99,32 +106,15 @@ row_past k zs n =
     let e = get_d_past zs (pos 0) n in
     λ i. record { kind = k; first = e 0 i; second = e 1 i; third = e 2 i; fourth = e 3 i }
 
--- the sort of field k, from the four that the code holds
-pub sort_there : (ss : List Sort) (k : ℕ) → get_or (four ss) k Target ≡ get_or ss k Target
-sort_there ss k = get_d_past ss Target (4 - length ss) k
-
--- one word more in front of those tried already
-pub word_more : (k : Kind) (t : Bool) {a o rest : Option Kind} → a ≡ cond t (some k) o → o ≡ rest → a ≡ cond t (some k) rest
-word_more k t e f = e ∙ ap (cond t (some k)) f
-
--- ---- the fields of a row, tried one by one: those from k on
-module _ (test : Field → Bool) (ss : List Sort) (ns : List ℤ) where
-  abbrev pub tested : ℕ → Bool
-  tested k = all test (placed (drop k ss) ns k)
-
-  abbrev pub row_holds : ℕ → Bool
-  row_holds k = test (field (get_or ss k Target) (at ns k))
-
-  one_tested : (k : ℕ) → k < length ss → tested k ≡ (row_holds k && tested (k + 1))
+-- ---- the fields of a row, tried pair by pair
+module _ (test : Field → Bool) where
+  pub pair-tried : (s : Sort) (z : ℤ) (ss : List Sort) (zs : List ℤ) {ss' : List Sort} {zs' : List ℤ} → ss' ≡ s ∷ ss → zs' ≡ z ∷ zs →
+      (test (field s z) && all test (paired ss zs)) ≡ all test (paired ss' zs')
   unfolding all
-  one_tested k l = rw (drop-cons ss k Target l, add-one k)
+  pair-tried s z ss zs e f = rw (e, f)
 
-  pub test_fails : (k : ℕ) → k < length ss → row_holds k ≡ false → false ≡ tested k
-  test_fails k l e = rw (one_tested k l, e)
-
-  pub test_holds : (k : ℕ) → k < length ss → row_holds k ≡ true → tested (k + 1) ≡ tested k
-  test_holds k l e = rw (one_tested k l, e)
-
-  pub tests-end : (k : ℕ) → length ss ≤ k → true ≡ tested k
+  pub pairs-end : (ss : List Sort) (zs : List ℤ) → (ss ≡ []) ⊎ (zs ≡ []) → true ≡ all test (paired ss zs)
   unfolding all
-  tests-end k l = rw (drop_of_length-le ss l)
+  pairs-end ss zs (inl e) = rw e
+  pairs-end [] zs (inr e) = refl
+  pairs-end (s ∷ ss) zs (inr e) = rw e

@@ -2,7 +2,7 @@
 use mathlib.Core.Path.{◌≡◌, refl, sym, ap, ap₂, ◌∙◌}
 use mathlib.Core.Bool.{Bool, true, false, cond, false≢true}
 use mathlib.Core.List.{List, [], ◌∷◌, map}
-use mathlib.Core.Option.{Option, none, some}
+use Rattle.std.specs.Prelude.{Option, None, Some}
 use lib.IntN.{ℤ, pos}
 use Rattle.model.specs.Language.{Field, tape, output, variable, target, constant, constants}
 use Rattle.model.specs.Inner.Lists.{All}
@@ -54,12 +54,12 @@ constants-field (target n) fs = refl
 constants-field (constant c) fs = refl
 
 -- and have the range of constants
-pub minus_bounds : (h : Head) (s : Sort) → may_minus s ≡ true → bounds h s ≡ some (least_constant, greatest_constant)
+pub minus_bounds : (h : Head) (s : Sort) → may_minus s ≡ true → bounds h s ≡ Some (least_constant, greatest_constant)
 minus_bounds h s e =
     by (may_minus s) e
-    (tried_sort (λ s. cond (may_minus s) (bounds h s) none) (λ s. cond (may_minus s) (some (least_constant, greatest_constant)) none) refl s)
+    (tried_sort (λ s. cond (may_minus s) (bounds h s) None) (λ s. cond (may_minus s) (Some (least_constant, greatest_constant)) None) refl s)
   where
-    by : (b : Bool) → b ≡ true → cond b (bounds h s) none ≡ cond b (some (least_constant, greatest_constant)) none
-        → bounds h s ≡ some (least_constant, greatest_constant)
+    by : (b : Bool) → b ≡ true → cond b (bounds h s) None ≡ cond b (Some (least_constant, greatest_constant)) None
+        → bounds h s ≡ Some (least_constant, greatest_constant)
     by true e h = h
     by false e h = absurd (false≢true e)

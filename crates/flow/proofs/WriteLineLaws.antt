@@ -3,8 +3,7 @@
 use mathlib.Core.Path.{◌≡◌, refl, sym, ap, ap₂, ◌∙◌}
 use mathlib.Core.Bool.{Bool, true, false, cond, ◌&&◌, true≢false}
 use mathlib.Core.List.{List, [], ◌∷◌, map}
-use mathlib.Core.Option
-use mathlib.Core.Option.{Option, none, some, bind}
+use Rattle.std.specs.Prelude.{Option, None, Some, option_map, option_and_then}
 use Prim.Native.Nat.{ℕ, suc, ◌+◌}
 use native.Mathlib.Omega.{arith}
 use borrow.Author.Tests.{eq-eqb, eqb-true, le-leb, ltb-true}
@@ -22,7 +21,8 @@ use Rattle.text.proofs.Decimal.{none_no_some, decimal-read, plain_read, signed-r
 use Rattle.flow.specs.Limits.{max_tapes, max_outputs, max_variables}
 use Rattle.flow.specs.Words.{table, kinds, first_named, kind_of, sorts, may_minus, count, at, built, number}
 use Rattle.flow.specs.Inner.Reader.{field}
-use Rattle.flow.specs.Read.{ok, check, numerals, in_range, all, head_of, read_head, read_line}
+use Rattle.std.specs.Prelude.{Ok}
+use Rattle.flow.specs.Read.{check, numerals, in_range, all, head_of, read_head, read_line}
 use Rattle.flow.specs.Code.{kind, numbers}
 use Rattle.flow.specs.Inner.Reader.{HeadFits}
 use Rattle.flow.proofs.RowLaws.{placed}
@@ -39,15 +39,15 @@ use Rattle.flow.proofs.ReadLaws.{LineRead, line_read}
 
 -- ---- what is written is read
 -- the numbers in fields of some sorts are read back
-numbers-read : (ss : List Sort) (zs : List ℤ) (j : ℕ) → let fs = map number (placed ss zs j) in numerals ss (map signed fs) ≡ some fs
-unfolding numerals bind
+numbers-read : (ss : List Sort) (zs : List ℤ) (j : ℕ) → let fs = map number (placed ss zs j) in numerals ss (map signed fs) ≡ Some fs
+unfolding numerals
 numbers-read [] zs j = refl
 numbers-read (s ∷ ss) zs j = rw (one s (at zs j), numbers-read ss zs (suc j))
   where
-    one : (s : Sort) (z : ℤ) → numeral (may_minus s) (signed (number (field s z))) ≡ some (number (field s z))
+    one : (s : Sort) (z : ℤ) → numeral (may_minus s) (signed (number (field s z))) ≡ Some (number (field s z))
     one s z = rw (number-field z s) (by (may_minus s))
       where
-        by : (b : Bool) → numeral b (signed (cond b z (pos (count z)))) ≡ some (cond b z (pos (count z)))
+        by : (b : Bool) → numeral b (signed (cond b z (pos (count z)))) ≡ Some (cond b z (pos (count z)))
         by true = signed-read z
         by false = plain_read (count z)
 
@@ -61,16 +61,16 @@ fields_placed x = ap fields (sym (parts-built x)) ∙ fields-built (numbers x) (
 
 -- the line of an instruction is judged by its ranges alone
 pub line_fields-read : (h : Head) (i : ℕ) (x : Instruction)
-    → read_line h i (line_fields i x) ≡ check (all (in_range h) (fields x)) (OutOfRange (i + 1)) (ok x)
+    → read_line h i (line_fields i x) ≡ check (all (in_range h) (fields x)) (OutOfRange (i + 1)) (Ok x)
 unfolding read_line
 line_fields-read h i x =
     let k = kind x in
-    let read : numerals (sorts k) (map signed (numbers x)) ≡ some (numbers x) = rw (fields_placed x) (numbers-read (sorts k) (numbers x) 0) in
+    let read : numerals (sorts k) (map signed (numbers x)) ≡ Some (numbers x) = rw (fields_placed x) (numbers-read (sorts k) (numbers x) 0) in
     let places : length (fields x) ≡ length (sorts k) = ap length (fields_placed x) ∙ placed_length (sorts k) (numbers x) 0 in
     let wide : suc (suc (length (map signed (numbers x)))) ≡ length (sorts k) + 2 = omega (arith, length-map (numbers x) signed, length-map (fields x) number) in
     rw (word_known k, eq-eqb _ _ wide, decimal-read i, read, eq-eqb i i refl, parts-built x)
 
-pub head-fields-read : (h : Head) → HeadFits h → read_head (head_fields h) ≡ ok h
+pub head-fields-read : (h : Head) → HeadFits h → read_head (head_fields h) ≡ Ok h
 unfolding read_head head_of same_word
 head-fields-read h f =
     rw (
@@ -85,61 +85,61 @@ head-fields-read h f =
     )
 
 -- ---- what is read was written
-minus_first : (b : ℕ) (bs : List ℕ) → b ≡ 45 → natural (b ∷ bs) ≡ none
+minus_first : (b : ℕ) (bs : List ℕ) → b ≡ 45 → natural (b ∷ bs) ≡ None
 unfolding natural digits_after
 minus_first b [] e = rw e
 minus_first b (d ∷ bs) e = rw e
 
-pub numeral-natural : (f : List ℕ) → numeral false f ≡ Option.map pos (natural f)
+pub numeral-natural : (f : List ℕ) → numeral false f ≡ option_map pos (natural f)
 unfolding numeral natural
 numeral-natural [] = refl
 numeral-natural (b ∷ bs) = by (eqb b 45) refl
   where
-    by : (t : Bool) → eqb b 45 ≡ t → cond t none (Option.map pos (natural (b ∷ bs))) ≡ Option.map pos (natural (b ∷ bs))
-    by true h = sym (ap (Option.map pos) (minus_first b bs (eqb-true b 45 h)))
+    by : (t : Bool) → eqb b 45 ≡ t → cond t None (option_map pos (natural (b ∷ bs))) ≡ option_map pos (natural (b ∷ bs))
+    by true h = sym (ap (option_map pos) (minus_first b bs (eqb-true b 45 h)))
     by false h = refl
 
 abbrev positive : Option ℤ → Bool
-positive none = true
-positive (some (pos n)) = true
-positive (some (negsuc n)) = false
+positive None = true
+positive (Some (pos n)) = true
+positive (Some (negsuc n)) = false
 
-no_minus : (f : List ℕ) (n : ℕ) → numeral false f ≡ some (negsuc n) → ⊥
+no_minus : (f : List ℕ) (n : ℕ) → numeral false f ≡ Some (negsuc n) → ⊥
 no_minus f n e = by (natural f) (sym (numeral-natural f) ∙ e)
   where
-    by : (o : Option ℕ) → Option.map pos o ≡ some (negsuc n) → ⊥
-    by none q = none_no_some q
-    by (some m) q = let z : ◌≡◌ {A = Bool} true false = ap (λ (o : Option ℤ). positive o) q in true≢false z
+    by : (o : Option ℕ) → option_map pos o ≡ Some (negsuc n) → ⊥
+    by None q = none_no_some q
+    by (Some m) q = let z : ◌≡◌ {A = Bool} true false = ap (λ (o : Option ℤ). positive o) q in true≢false z
 
 -- a number that is read is the one that its field holds, and is written so
-number-back : (s : Sort) (f : List ℕ) (z : ℤ) → numeral (may_minus s) f ≡ some z → (number (field s z) ≡ z) × (f ≡ signed z)
+number-back : (s : Sort) (f : List ℕ) (z : ℤ) → numeral (may_minus s) f ≡ Some z → (number (field s z) ≡ z) × (f ≡ signed z)
 number-back s f z = rw (number-field z s) (by (may_minus s) z)
   where
-    by : (b : Bool) (z : ℤ) → numeral b f ≡ some z → (cond b z (pos (count z)) ≡ z) × (f ≡ signed z)
+    by : (b : Bool) (z : ℤ) → numeral b f ≡ Some z → (cond b z (pos (count z)) ≡ z) × (f ≡ signed z)
     by true z e = (refl, numeral-written true f z e)
     by false (pos n) e = (refl, numeral-written false f (pos n) e)
     by false (negsuc n) e = absurd (no_minus f n e)
 
 -- a number in front of those of the rest, if all are well written
 abbrev pub joined : Option ℤ → Option (List ℤ) → Option (List ℤ)
-joined o rest = bind o (λ z. Option.map (λ zs. z ∷ zs) rest)
+joined o rest = option_and_then (λ z. option_map (λ zs. z ∷ zs) rest) o
 
 -- the numbers that are read are those in the fields of the instruction, and are written so
 module _ (ws : List ℤ) where
-  numbers-back : (ss : List Sort) (fs : List (List ℕ)) (zs : List ℤ) (j : ℕ) → length fs ≡ length ss → numerals ss fs ≡ some zs → ((i : ℕ) → at ws (j + i) ≡ at zs i)
+  numbers-back : (ss : List Sort) (fs : List (List ℕ)) (zs : List ℤ) (j : ℕ) → length fs ≡ length ss → numerals ss fs ≡ Some zs → ((i : ℕ) → at ws (j + i) ≡ at zs i)
       → (map number (placed ss ws j) ≡ zs) × (fs ≡ map signed zs)
-  unfolding numerals bind
-  numbers-back [] [] zs j l e h = let none : [] ≡ zs = cc in (none, ap (map signed) none)
+  unfolding numerals
+  numbers-back [] [] zs j l e h = let None : [] ≡ zs = cc in (None, ap (map signed) None)
   numbers-back [] (f ∷ fs) zs j l e h = absurd (omega arith)
   numbers-back (s ∷ ss) [] zs j l e h = absurd (omega arith)
   numbers-back (s ∷ ss) (f ∷ fs) zs j l e h = by (numeral (may_minus s) f) (numerals ss fs) refl refl e (numbers-back ss fs)
     where
-      by : (o : Option ℤ) (os : Option (List ℤ)) → numeral (may_minus s) f ≡ o → numerals ss fs ≡ os → joined o os ≡ some zs
-          → ((ys : List ℤ) (j : ℕ) → length fs ≡ length ss → numerals ss fs ≡ some ys → ((i : ℕ) → at ws (j + i) ≡ at ys i) → (map number (placed ss ws j) ≡ ys) × (fs ≡ map signed ys))
+      by : (o : Option ℤ) (os : Option (List ℤ)) → numeral (may_minus s) f ≡ o → numerals ss fs ≡ os → joined o os ≡ Some zs
+          → ((ys : List ℤ) (j : ℕ) → length fs ≡ length ss → numerals ss fs ≡ Some ys → ((i : ℕ) → at ws (j + i) ≡ at ys i) → (map number (placed ss ws j) ≡ ys) × (fs ≡ map signed ys))
           → (map number (placed (s ∷ ss) ws j) ≡ zs) × (f ∷ fs ≡ map signed zs)
-      by none os p q e rest = absurd (none_no_some e)
-      by (some z) none p q e rest = absurd (none_no_some e)
-      by (some z) (some ys) p q e rest =
+      by None os p q e rest = absurd (none_no_some e)
+      by (Some z) None p q e rest = absurd (none_no_some e)
+      by (Some z) (Some ys) p q e rest =
           let whole : z ∷ ys ≡ zs = cc in
           let start : j ≡ j + 0 = omega arith in
           let here : at ws j ≡ z = ap (at ws) start ∙ h 0 ∙ ap (λ (l : List ℤ). at l 0) (sym whole) in
@@ -149,7 +149,7 @@ module _ (ws : List ℤ) where
           let (helds, writtens) = rest ys (suc j) (omega arith) q next in
           (ap₂ ◌∷◌ (ap (λ (w : ℤ). number (field s w)) here ∙ held) helds ∙ whole, ap₂ ◌∷◌ written writtens ∙ ap (map signed) whole)
 
-module _ (k : Kind) (fs : List (List ℕ)) (zs : List ℤ) (l : length fs ≡ length (sorts k)) (e : numerals (sorts k) fs ≡ some zs) where
+module _ (k : Kind) (fs : List (List ℕ)) (zs : List ℤ) (l : length fs ≡ length (sorts k)) (e : numerals (sorts k) fs ≡ Some zs) where
   both : (map number (placed (sorts k) zs 0) ≡ zs) × (fs ≡ map signed zs)
   both = numbers-back zs (sorts k) fs zs 0 l e (λ i. let z : 0 + i ≡ i = omega arith in rw z)
 
@@ -160,19 +160,19 @@ module _ (k : Kind) (fs : List (List ℕ)) (zs : List ℤ) (l : length fs ≡ le
   fields-written = both.1 ∙ ap (map signed) (sym numbers-built)
 
 -- the kind that a word names has that word
-word-among : (ks : List Kind) (w : List ℕ) (k : Kind) → first_named ks w ≡ some k → w ≡ (table k).word
+word-among : (ks : List Kind) (w : List ℕ) (k : Kind) → first_named ks w ≡ Some k → w ≡ (table k).word
 unfolding first_named
 word-among [] w k e = absurd (none_no_some e)
 word-among (j ∷ ks) w k e = by (same_word w (table j).word) refl e (word-among ks w k)
   where
-    by : (t : Bool) → same_word w (table j).word ≡ t → cond t (some j) (first_named ks w) ≡ some k → (first_named ks w ≡ some k → w ≡ (table k).word) → w ≡ (table k).word
+    by : (t : Bool) → same_word w (table j).word ≡ t → cond t (Some j) (first_named ks w) ≡ Some k → (first_named ks w ≡ Some k → w ≡ (table k).word) → w ≡ (table k).word
     by true h e rest = let same : j ≡ k = cc in same_word_lem w (table j).word h ∙ ap (λ (i : Kind). (table i).word) same
     by false h e rest = rest e
 
-word-written : (w : List ℕ) (k : Kind) (zs : List ℤ) → kind_of w ≡ some k → w ≡ word (built k zs)
+word-written : (w : List ℕ) (k : Kind) (zs : List ℤ) → kind_of w ≡ Some k → w ≡ word (built k zs)
 word-written w k zs e = word-among kinds w k e ∙ ap (λ (i : Kind). (table i).word) (sym (kind-built zs k))
 
-pub line_fields-written : (h : Head) (i : ℕ) (fs : List (List ℕ)) (x : Instruction) → read_line h i fs ≡ ok x → fs ≡ line_fields i x
+pub line_fields-written : (h : Head) (i : ℕ) (fs : List (List ℕ)) (x : Instruction) → read_line h i fs ≡ Ok x → fs ≡ line_fields i x
 line_fields-written h i fs x e = by fs (line_read h i fs x e)
   where
     by : (fs : List (List ℕ)) → LineRead h i fs x → fs ≡ line_fields i x
@@ -183,7 +183,7 @@ line_fields-written h i fs x e = by fs (line_read h i fs x e)
         ap₂ ◌∷◌ (natural-written f i o.number) (ap₂ ◌∷◌ (word-written w o.k o.ns o.known) ns)
         ∙ ap (line_fields i) o.whole
 
-pub head-fields-written : (fs : List (List ℕ)) (h : Head) → read_head fs ≡ ok h → fs ≡ head_fields h
+pub head-fields-written : (fs : List (List ℕ)) (h : Head) → read_head fs ≡ Ok h → fs ≡ head_fields h
 head-fields-written fs h e = by fs (head_read fs h e)
   where
     by : (fs : List (List ℕ)) → HeadRead fs h → fs ≡ head_fields h

@@ -1,15 +1,14 @@
 -- How the code holds a flow: a row for each instruction, in the order of the lines, and rows of `stop` up to 64.
-use Rattle.std.specs.Prelude.{List, [], ◌++◌, map, ◌-◌, ℤ, length, replicate}
+use Rattle.std.specs.Prelude.{List, ◌++◌, map, ◌-◌, ℤ, length, replicate}
 use Rattle.model.specs.Language.{Instruction, read, put, copy, const, less, over, under, nop, stop, Flow, fields}
 use Rattle.flow.specs.Limits.{max_instructions}
 use Rattle.flow.specs.Words.{number, at}
-use Rattle.flow.specs.Read.{Checked, ok, fault}
+use Rattle.std.specs.Prelude.{Result, Ok, Err}
+use Rattle.flow.specs.declared.Refusal.{Refusal}
 use Rattle.flow.specs.declared.Kind.{Kind}
 use Rattle.flow.specs.declared.Kind.TheVariants.{Read, Put, Copy, Set, Less, Over, Under, Nop, Stop}
 use Rattle.flow.specs.declared.Instruction.{Instruction as Row}
 use Rattle.flow.specs.declared.Flow.{Flow as Rows}
-use Rattle.flow.specs.declared.Answer.TheVariants.{Legal, Refused}
-use Rattle.flow.specs.declared.Reading.{Reading}
 
 -- the kind of an instruction
 abbrev pub kind : Instruction → Kind
@@ -35,7 +34,7 @@ row k zs = record { kind = k; first = at zs 0; second = at zs 1; third = at zs 2
 abbrev pub row_of : Instruction → Row
 row_of x = row (kind x) (numbers x)
 
--- a flow as the code holds it; a faulty text comes with one that has nothing in it
+-- a flow as the code holds it
 unfoldable pub rows_of : Flow → Rows
 rows_of flow = record {
   tapes = flow.tapes;
@@ -45,10 +44,7 @@ rows_of flow = record {
   instructions = map row_of flow.instructions ++ replicate (max_instructions - length flow.instructions) (row_of stop);
 }
 
-abbrev pub no_flow : Flow
-no_flow = record { tapes = 0; outputs = 0; variables = 0; instructions = [] }
-
 -- the code's answer for what a text is read as
-unfoldable pub reading_of : Checked Flow → Reading
-reading_of (ok flow) = record { answer = Legal; flow = rows_of flow }
-reading_of (fault r) = record { answer = Refused r; flow = rows_of no_flow }
+unfoldable pub reading_of : Result Flow Refusal → Result Rows Refusal
+reading_of (Ok flow) = Ok (rows_of flow)
+reading_of (Err r) = Err r

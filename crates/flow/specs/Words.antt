@@ -2,7 +2,7 @@
 -- The kind of a word, the count of fields and the minus signs are read off it; ranges and targets go by the model's `fields`, which name what
 -- the table names (`fields-built`, proofs/RowLaws.antt).
 use Rattle.std.specs.Prelude.{Bool, true, false, cond, List, [], ◌∷◌, ℕ, ℤ, pos, negsuc, get_or}
-use Rattle.std.proofs.Math.Option.{Option, none, some}
+use Rattle.std.specs.Prelude.{Option, None, Some}
 use Prim.Native.String.{String}
 use Rattle.model.specs.Language.{Instruction, read, put, copy, const, less, over, under, nop, stop, Field, tape, output, variable, target, constant}
 use Rattle.text.specs.Split.{same_word}
@@ -39,8 +39,8 @@ kinds = Read ∷ Put ∷ Copy ∷ Set ∷ Less ∷ Over ∷ Under ∷ Nop ∷ St
 
 -- the first of some kinds whose word it is, and the kind that a word names
 unfoldable pub first_named : List Kind → List ℕ → Option Kind
-first_named [] w = none
-first_named (k ∷ ks) w = cond (same_word w (table k).word) (some k) (first_named ks w)
+first_named [] w = None
+first_named (k ∷ ks) w = cond (same_word w (table k).word) (Some k) (first_named ks w)
 
 abbrev pub kind_of : List ℕ → Option Kind
 kind_of w = first_named kinds w

@@ -3,20 +3,17 @@
 // The limits stand in `Flow`, and nowhere else in the code.
 #![tactic(auto)]
 
-pub mod words; // words.rt: the word of a line, and the fields that it asks for
+mod words; // words.rt: the word of a line, and the fields that it asks for
 pub mod rows; // rows.rt: an instruction as a row, its numbers, and their ranges
 pub mod lent; // lent.rt: an instruction fetched from a lent slice, and stored there
 
-ghost use Rattle.std.specs.Prelude.{◌≡◌, replicate};
-ghost use Rattle.model.specs.Language.{stop};
-ghost use Rattle.flow.specs.Limits.{max_instructions};
+ghost use Rattle.std.specs.Prelude.{◌≡◌};
 ghost use Rattle.flow.specs.Refusals.{number_of, place_of};
 ghost use Rattle.flow.specs.Read.{head_of, only_stop};
-ghost use Rattle.flow.specs.Code.{row_of, rows_of, no_flow};
-ghost use Rattle.flow.specs.Inner.Reader.{head_in};
+ghost use Rattle.flow.specs.Code.{rows_of};
 
 // The kinds of instruction, by their words.
-#[derive(Clone, Copy)]
+#[derive(Clone, Copy, Debug, PartialEq, Eq)]
 pub enum Kind {
     Read,
     Put,
@@ -29,8 +26,8 @@ pub enum Kind {
     Stop,
 }
 
-// What a field after the word names. `Target`, the first case, also stands past the last field.
-#[derive(Clone, Copy)]
+// What a field after the word names.
+#[derive(Clone, Copy, Debug, PartialEq, Eq)]
 pub enum Sort {
     Target,
     Tape,
@@ -40,7 +37,8 @@ pub enum Sort {
 }
 
 // An instruction, kept whole: the kind of its line, and the numbers after the word in their order; 0 past the last.
-#[derive(Clone, Copy)]
+// Kept: four fields for four numbers, since with an array of them a run's step took 1.3 to 1.6 times as long (docs/DECISIONS.md, "Rows").
+#[derive(Clone, Copy, Debug, PartialEq, Eq)]
 pub struct Instruction {
     pub kind: Kind,
     pub first: i32,
@@ -50,22 +48,16 @@ pub struct Instruction {
 }
 
 // The counts of line 1: input tapes, output tapes, inner variables.
-#[derive(Clone, Copy)]
+#[derive(Clone, Copy, Debug, PartialEq, Eq)]
 pub struct Head {
     pub tapes: u8,
     pub outputs: u8,
     pub variables: u8,
 }
 
-// What line 1 is read as.
-#[derive(Clone, Copy)]
-pub enum Headed {
-    Heads(Head),
-    Fault(Refusal),
-}
-
 // A flow: the counts of line 1, and the instructions in the order of their lines; rows past the count hold `stop`.
-#[derive(Clone, Copy)]
+// Kept: an array with its count beside it, since there is no heap; and the counts of `Head`, since `flow.head.tapes` says no more than `flow.tapes`.
+#[derive(Clone, Copy, Debug, PartialEq, Eq)]
 pub struct Flow {
     pub tapes: u8,
     pub outputs: u8,
@@ -75,7 +67,7 @@ pub struct Flow {
 }
 
 // Why a request is turned back; the number in a case is that of the line. The first ten cases concern the text of a flow.
-#[derive(Clone, Copy)]
+#[derive(Clone, Copy, Debug, PartialEq, Eq)]
 pub enum Refusal {
     TooLong,
     NoLastEnd,
@@ -91,20 +83,6 @@ pub enum Refusal {
     ShortRow,
     NoSuchExit,
     WrongTapes,
-}
-
-// Whether a text was read.
-#[derive(Clone, Copy)]
-pub enum Answer {
-    Legal,
-    Refused(Refusal),
-}
-
-// What a text is read as: the flow, or the refusal and a flow with nothing in it.
-#[derive(Clone, Copy)]
-pub struct Reading {
-    pub answer: Answer,
-    pub flow: Flow,
 }
 
 impl Flow {
@@ -127,20 +105,20 @@ impl Flow {
     pub const GREATEST_CONSTANT: i32 = 9999;
 
     // The counts of line 1, if they lie in their ranges.
-    pub fn head(tapes: u8, outputs: u8, variables: u8) -> Headed
-        ensures { head_in result ≡ head_of tapes outputs variables }
+    pub fn head(tapes: u8, outputs: u8, variables: u8) -> Result<Head, Refusal>
+        ensures { result ≡ head_of tapes outputs variables }
     {
-        let t = (1 <= tapes) & (tapes <= Flow::MAX_TAPES);
-        let o = outputs <= Flow::MAX_OUTPUTS;
-        let v = (1 <= variables) & (variables <= Flow::MAX_VARIABLES);
-        if t & (o & v) {
-            return Headed::Heads(Head {
-                tapes,
-                outputs,
-                variables,
-            });
+        let in_range = (1..=Flow::MAX_TAPES).contains(&tapes)
+            && outputs <= Flow::MAX_OUTPUTS
+            && (1..=Flow::MAX_VARIABLES).contains(&variables);
+        if !in_range {
+            return Err(Refusal::OutOfRange(1));
         }
-        Headed::Fault(Refusal::OutOfRange(1))
+        Ok(Head {
+            tapes,
+            outputs,
+            variables,
+        })
     }
 
     // A flow with the counts of line 1 and some instructions.
@@ -160,30 +138,16 @@ impl Flow {
         }
     }
 
-    // No outputs, and so many instructions, each of them `stop`.
-    fn stops(tapes: u8, variables: u8, count: usize) -> Self
-        ensures { result ≡ record { tapes = tapes; outputs = 0; variables = variables; count = count; instructions = replicate max_instructions (row_of stop) } }
-    {
-        let head = Head {
-            tapes,
-            outputs: 0,
-            variables,
-        };
-        Flow::new(head, count, [Instruction::stop(); Flow::MAX_INSTRUCTIONS])
-    }
-
     // One tape, no outputs, one variable and the single instruction `stop`.
     pub fn only_stop() -> Self
         ensures { result ≡ rows_of only_stop }
     {
-        Flow::stops(1, 1, 1)
-    }
-
-    // A flow with nothing in it.
-    pub fn none() -> Self
-        ensures { result ≡ rows_of no_flow }
-    {
-        Flow::stops(0, 0, 0)
+        let head = Head {
+            tapes: 1,
+            outputs: 0,
+            variables: 1,
+        };
+        Flow::new(head, 1, [Instruction::stop(); Flow::MAX_INSTRUCTIONS])
     }
 }
 
@@ -201,8 +165,7 @@ impl Refusal {
             Refusal::OutOfRange(_) => 5,
             Refusal::OutOfTurn(_) => 6,
             Refusal::NoSuchTarget(_) => 7,
-            Refusal::TooManyLines => 8,
-            Refusal::NoInstruction => 8,
+            Refusal::TooManyLines | Refusal::NoInstruction => 8,
             Refusal::TooFewCells => 9,
             Refusal::ShortRow => 10,
             Refusal::NoSuchExit => 11,
@@ -215,20 +178,20 @@ impl Refusal {
         ensures { result ≡ place_of self }
     {
         match self {
-            Refusal::TooLong => 0,
-            Refusal::NoLastEnd => 0,
-            Refusal::UnknownWord(line) => line,
-            Refusal::WrongCount(line) => line,
-            Refusal::BadNumber(line) => line,
-            Refusal::OutOfRange(line) => line,
-            Refusal::OutOfTurn(line) => line,
-            Refusal::NoSuchTarget(line) => line,
+            Refusal::UnknownWord(line)
+            | Refusal::WrongCount(line)
+            | Refusal::BadNumber(line)
+            | Refusal::OutOfRange(line)
+            | Refusal::OutOfTurn(line)
+            | Refusal::NoSuchTarget(line) => line,
             Refusal::TooManyLines => Flow::MAX_INSTRUCTIONS + 2,
             Refusal::NoInstruction => 2,
-            Refusal::TooFewCells => 0,
-            Refusal::ShortRow => 0,
-            Refusal::NoSuchExit => 0,
-            Refusal::WrongTapes => 0,
+            Refusal::TooLong
+            | Refusal::NoLastEnd
+            | Refusal::TooFewCells
+            | Refusal::ShortRow
+            | Refusal::NoSuchExit
+            | Refusal::WrongTapes => 0,
         }
     }
 }

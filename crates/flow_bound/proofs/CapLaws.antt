@@ -2,7 +2,7 @@
 -- whatever else lies past the most cells stays there. Cutting off changes no answer.
 use mathlib.Core.Path.{◌≡◌, refl, sym, ap, ◌∙◌}
 use mathlib.Core.Bool.{Bool, true, false, cond}
-use Prim.Native.Nat.{ℕ, zero, suc, ◌+◌, ◌*◌, ◌^◌, ◌<◌, ◌≤◌}
+use Prim.Native.Nat.{ℕ, zero, suc, ◌+◌, ◌*◌, ◌^◌, ◌<◌}
 use native.Mathlib.Nat.{mul-le-mul_right}
 use native.Mathlib.Decide.{dec_lt}
 use native.Mathlib.Omega.{arith}
@@ -13,7 +13,7 @@ use Rattle.cells.specs.Cells.{most_cells}
 use Rattle.patterns.specs.Patterns.{patterns_of}
 use Rattle.flow_bound.specs.Bound.{bound_answer}
 use Rattle.flow_bound.specs.Inner.Capped.{cells_cap, capped_cells}
-use Rattle.flow_bound.specs.declared.BoundAnswer.TheVariants.{AtMost, Over}
+use Rattle.std.specs.Prelude.{Some, None}
 
 -- a product is cut off alike if one factor is
 capped_left : (a b : ℕ) → capped_cells (capped_cells a * b) ≡ capped_cells (a * b)
@@ -43,12 +43,12 @@ pub answer-capped : (n : ℕ) → bound_answer (capped_cells n) ≡ bound_answer
 unfolding bound_answer
 answer-capped n = rw (capped-over n) (by (ltb most_cells n) refl)
   where
-    by : (b : Bool) → ltb most_cells n ≡ b → cond b Over (AtMost (capped_cells n)) ≡ cond b Over (AtMost n)
+    by : (b : Bool) → ltb most_cells n ≡ b → cond b None (Some (capped_cells n)) ≡ cond b None (Some n)
     by true h = refl
-    by false h = ap AtMost (capped-within n h)
+    by false h = ap Some (capped-within n h)
 
 -- 65,536 itself is a number, one more is over
-pub bound_border : (bound_answer 65536 ≡ AtMost 65536) × (bound_answer 65537 ≡ Over)
+pub bound_border : (bound_answer 65536 ≡ Some 65536) × (bound_answer 65537 ≡ None)
 unfolding bound_answer
 bound_border = (refl, refl)
 
@@ -80,9 +80,6 @@ module _ (v w : ℕ) where
       ))
 
 -- ---- the whole bound
-pub power_at : (t n : ℕ) → t ≡ n → 2 ^ n ≡ 2 ^ t
-power_at t n e = ap (λ (k : ℕ). 2 ^ k) (sym e)
-
 -- i instructions times e sets of tapes, times the number x of patterns, which is cut off to p
 pub answer_product : (i t e p m n x : ℕ) → e ≡ 2 ^ t → p ≡ capped_cells x → m ≡ capped_cells (i * e + 0) → n ≡ capped_cells (m * p + 0)
     → bound_answer n ≡ bound_answer (i * (2 ^ t) * x)
@@ -90,7 +87,3 @@ answer_product i t e p m n x f a b c =
     let same : i * e + 0 ≡ i * e = omega arith in
     let whole : n ≡ capped_cells (i * (2 ^ t) * x) = rw (sym f, c, b, a, same) (omega (arith, capped_product (i * e) x)) in
     ap bound_answer whole ∙ answer-capped (i * (2 ^ t) * x)
-
--- products of what was cut off fit
-pub product_small : (x y : ℕ) → x ≤ cells_cap → y ≤ cells_cap → x * y ≤ cells_cap * cells_cap
-product_small x y a b = omega (arith, mul-le-mul_right {m = x} {n = cells_cap} y a)

@@ -3,38 +3,28 @@
 
 ghost use Rattle.input.specs.Input.{WithinBuffer, TakenFrom};
 
-use std::io::{ErrorKind, Read};
+use std::io::{self, ErrorKind, Read};
 
-// How the reading of an input ends: with a number of bytes, or with a read that failed.
-#[derive(Clone, Copy)]
-pub enum Input {
-    Bytes(usize),
-    Failed,
-}
-
-// Reads until the input ends or buf is full. A read that a signal interrupts is done again. A proved loop has to end, and nothing says that
-// interruptions do: so the reads are counted down, from a number that no run uses up.
-pub fn read_all<R: Read>(reader: &mut R, buf: &mut [u8]) -> Input
+// Reads until the input ends or buf is full, and says how many bytes it put there. A read that a signal interrupts is done again. A proved loop
+// has to end, and nothing says that interruptions do: so the reads are counted, up to a number that no run uses up.
+pub fn read_all<R: Read>(reader: &mut R, buf: &mut [u8]) -> io::Result<usize>
     ensures within { WithinBuffer result buf.new }
     ensures taken { TakenFrom result (R.remaining reader.old) (R.remaining reader.new) buf.new }
 {
     let mut n = 0;
-    let mut reads = u64::MAX;
-    while reads > 0 {
+    for _ in 0..u64::MAX {
         if n == buf.len() {
-            return Input::Bytes(n);
+            return Ok(n);
         }
-        let part = &mut buf[n..];
-        match reader.read(part) {
-            Ok(0) => return Input::Bytes(n),
+        match reader.read(&mut buf[n..]) {
+            Ok(0) => return Ok(n),
             Ok(got) => n += got,
             Err(e) => {
                 if e.kind() != ErrorKind::Interrupted {
-                    return Input::Failed;
+                    return Err(e);
                 }
             }
         }
-        reads -= 1;
     }
-    Input::Failed
+    Err(io::Error::other("the reads were interrupted too often"))
 }

@@ -14,11 +14,9 @@ use Rattle.model.specs.Machine.{step_by, exit_by, State, read_from, has_record, 
 use Rattle.flow.specs.declared.Instruction.{Instruction as Row}
 use Rattle.flow.specs.declared.Kind.{Kind}
 use Rattle.flow.specs.declared.Kind.TheVariants.{Read}
-use Rattle.flow.specs.Limits.{max_tapes, max_variables}
 use Rattle.flow.specs.Inner.Rows.{instruction_of, branches}
-use Rattle.interpreter.proofs.RowLaws.{put_fits}
 use Rattle.interpreter.specs.declared.Onward.{Onward}
-use Rattle.interpreter.specs.Inner.Arrays.{count_at, either_on, exit_when, left_in, held, Placed, RowFits, outputs, Stepped}
+use Rattle.interpreter.specs.Inner.Arrays.{count_at, either_on, exit_when, left_in, held, Placed, RowFits, Stepped}
 
 -- ---- what is left of a tape
 
@@ -49,10 +47,6 @@ kinded x k = record { kind = k; first = x.first; second = x.second; third = x.th
 
 pub fits_kind : (x : Row) {k : Kind} → x.kind ≡ k → RowFits x → RowFits (kinded x k)
 fits_kind x e h = subst RowFits (ap (kinded x) e) h
-
-pub fits_put : (x : Row) → outputs x.kind ≡ true → RowFits x → ((1 ≤ count_at x 0) × (count_at x 0 ≤ 4)) × ((1 ≤ count_at x 1) × (count_at x 1 ≤ 255))
-unfolding RowFits
-fits_put x e h = put_fits x max_tapes max_variables e h
 
 -- ---- a step
 

@@ -15,7 +15,7 @@ ghost use Rattle.model.specs.Tapes.{total};
 ghost use Rattle.interpreter.specs.Run.{max_steps, row_run, ran_of, written, tapes_put, values_put, counted};
 ghost use Rattle.interpreter.specs.Inner.Arrays.{Placed, RowFits, count_at, straight_on, either_on, stops, outputs, exit_when, Stepped, held_run};
 
-use flow::{Flow, Instruction, Kind, Refusal, words};
+use flow::{Flow, Instruction, Kind};
 
 // A value for each variable, a number for each tape, a count for each instruction.
 pub type Variables = [i32; Flow::VARIABLES];
@@ -24,13 +24,12 @@ pub type PerTape = [usize; Flow::TAPES];
 
 pub type PerInstruction = [u32; Flow::MAX_INSTRUCTIONS];
 
-// How a run ends, or why it was not made.
-#[derive(Clone, Copy)]
+// How a run ends: at a `stop`, with the limit of steps used, or at a put with no free cell.
+#[derive(Clone, Copy, Debug, PartialEq, Eq)]
 pub enum RunEnd {
     Stopped,
     Spent,
     Full,
-    Refused(Refusal),
 }
 
 // What a run comes to: its end, the steps and the puts done, and how often each exit was taken, by instruction.
@@ -43,64 +42,13 @@ pub struct RunAnswer {
     pub m: PerInstruction,
 }
 
-fn smaller(a: u64, b: u64) -> u64
-    ensures { result ≡ min a b }
-{
-    if a < b {
-        return a;
-    }
-    b
-}
-
-fn is_stop(kind: Kind) -> bool
-    ensures { result ≡ stops kind }
-{
-    match kind {
-        Kind::Read => false,
-        Kind::Put => false,
-        Kind::Copy => false,
-        Kind::Set => false,
-        Kind::Less => false,
-        Kind::Over => false,
-        Kind::Under => false,
-        Kind::Nop => false,
-        Kind::Stop => true,
-    }
-}
-
-fn is_put(kind: Kind) -> bool
-    ensures { result ≡ outputs kind }
-{
-    match kind {
-        Kind::Read => false,
-        Kind::Put => true,
-        Kind::Copy => false,
-        Kind::Set => false,
-        Kind::Less => false,
-        Kind::Over => false,
-        Kind::Under => false,
-        Kind::Nop => false,
-        Kind::Stop => false,
-    }
-}
-
-// Whether an instruction of this kind is a put with no free cell.
-fn is_full(kind: Kind, puts: usize, cells: usize) -> bool
-    ensures { result ≡ (outputs kind && leb cells puts) }
-{
-    if is_put(kind) {
-        return cells <= puts;
-    }
-    false
-}
-
+// Kept: the arrays of a run are lent one by one; in a struct with methods on `&mut self`, which was proved too, a step took 1.3 times as long.
 // The value of variable number u.
 fn value(variables: &Variables, u: usize) -> i32
     requires { (1 ≤ u) × (u ≤ max_variables) }
     ensures { result ≡ get_or variables.now (u - 1) (pos 0) }
 {
-    let i = u - 1;
-    variables[i]
+    variables[u - 1]
 }
 
 // y to variable number v.
@@ -108,11 +56,11 @@ fn assign(variables: &mut Variables, v: usize, y: i32)
     requires { (1 ≤ v) × (v ≤ max_variables) }
     ensures { variables.new ≡ set variables.old (v - 1) y }
 {
-    let i = v - 1;
-    variables[i] = y;
+    variables[v - 1] = y;
 }
 
 // Writes what an instruction puts into the output rows, if it is a put, and gives the number of puts done then.
+#[tactic(auto, unfolding(crate::specs::Inner::Arrays::RowFits))]
 fn put(
     x: Instruction,
     variables: &Variables,
@@ -127,15 +75,12 @@ fn put(
     ensures values_after { values.new
         ≡ cond (outputs x.kind) (set values.old puts (get_or variables.now (count_at x 0 - 1) (pos 0))) values.old }
 {
-    let kind = x.kind;
-    if is_put(kind) {
-        let y = value(variables, x.count(0));
-        let tape = x.count(1) as u8;
-        numbers[puts] = tape;
-        values[puts] = y;
-        return puts + 1;
+    if x.kind != Kind::Put {
+        return puts;
     }
-    puts
+    numbers[puts] = x.count(1) as u8;
+    values[puts] = value(variables, x.count(0));
+    puts + 1
 }
 
 // Where a step goes on, and whether by the first of its targets.
@@ -161,19 +106,15 @@ fn either(x: Instruction, first: bool) -> Onward
     requires { (1 ≤ count_at x 2) × (1 ≤ count_at x 3) }
     ensures { result ≡ either_on x first }
 {
-    if first {
-        return Onward {
-            first: true,
-            next: x.count(2),
-        };
-    }
+    let k = if first { 2 } else { 3 };
     Onward {
-        first: false,
-        next: x.count(3),
+        first,
+        next: x.count(k),
     }
 }
 
 // The step of a read: on to P if the tape has a record left.
+#[tactic(auto, unfolding(crate::specs::Inner::Arrays::RowFits))]
 fn read_record(
     x: Instruction,
     records: &[i32],
@@ -200,6 +141,7 @@ fn read_record(
 }
 
 // One step of an instruction other than `stop`.
+#[tactic(auto, unfolding(crate::specs::Inner::Arrays::RowFits))]
 fn step(
     x: Instruction,
     records: &[i32],
@@ -213,44 +155,29 @@ fn step(
     ensures { Stepped x records.now ends.now
         variables.old at.old variables.new at.new result }
 {
-    let kind = x.kind;
-    match kind {
-        Kind::Read => {
-            return read_record(x, records, variables, at, ends);
-        }
-        Kind::Put => {
-            return straight(x, 2);
-        }
+    match x.kind {
+        Kind::Read => read_record(x, records, variables, at, ends),
+        Kind::Put => straight(x, 2),
         Kind::Copy => {
             let y = value(variables, x.count(0));
             assign(variables, x.count(1), y);
-            return straight(x, 2);
+            straight(x, 2)
         }
         Kind::Set => {
             assign(variables, x.count(1), x.number(0));
-            return straight(x, 2);
+            straight(x, 2)
         }
-        Kind::Less => {
-            return either(
-                x,
-                value(variables, x.count(0)) < value(variables, x.count(1)),
-            );
-        }
-        Kind::Over => {
-            return either(x, x.number(0) < value(variables, x.count(1)));
-        }
-        Kind::Under => {
-            return either(x, value(variables, x.count(0)) < x.number(1));
-        }
-        Kind::Nop => {
-            return straight(x, 0);
-        }
-        Kind::Stop => {
-            return Onward {
-                first: true,
-                next: 0,
-            };
-        }
+        Kind::Less => either(
+            x,
+            value(variables, x.count(0)) < value(variables, x.count(1)),
+        ),
+        Kind::Over => either(x, x.number(0) < value(variables, x.count(1))),
+        Kind::Under => either(x, value(variables, x.count(0)) < x.number(1)),
+        Kind::Nop => straight(x, 0),
+        Kind::Stop => Onward {
+            first: true,
+            next: 0,
+        },
     }
 }
 
@@ -261,15 +188,14 @@ fn count(kind: Kind, first: bool, i: usize, p: &mut PerInstruction, m: &mut PerI
     ensures p_after { p.new ≡ counted (exit_when (branches kind) first) p_exit i p.old }
     ensures m_after { m.new ≡ counted (exit_when (branches kind) first) m_exit i m.old }
 {
-    if !words::two_exits(kind) {
+    if !kind.has_exits() {
         return;
     }
-    let k = i - 1;
     if first {
-        p[k] = p[k] + 1;
-        return;
+        p[i - 1] += 1;
+    } else {
+        m[i - 1] += 1;
     }
-    m[k] = m[k] + 1;
 }
 
 // The run with the tapes at these places.
@@ -300,23 +226,23 @@ fn run_from(
     let mut m: PerInstruction = [0; Flow::MAX_INSTRUCTIONS];
     let mut steps: u64 = 0;
     let mut puts: usize = 0;
+    // Kept: a `for` over the steps would have to look at `stop` once more behind its last turn.
     let end = loop {
-        let i = next - 1;
-        let x = flow.instructions[i];
-        let kind = x.kind;
-        if is_stop(kind) {
+        let x = flow.instructions[next - 1];
+        if x.kind == Kind::Stop {
             break RunEnd::Stopped;
         }
         let spent = steps == limit;
         if spent {
             break RunEnd::Spent;
         }
-        if is_full(kind, puts, cells) {
+        let full = x.kind == Kind::Put && cells <= puts;
+        if full {
             break RunEnd::Full;
         }
         puts = put(x, &variables, puts, numbers, values);
         let went = step(x, records, &mut variables, &mut at, &ends);
-        count(kind, went.first, next, &mut p, &mut m);
+        count(x.kind, went.first, next, &mut p, &mut m);
         next = went.next;
         steps += 1;
     };
@@ -354,8 +280,8 @@ pub fn run(
         ≡ written (values_put (row_run (flow_of flow) limit records.now lengths numbers.old values.old))
         values.old }
 {
-    let most = smaller(limit, RunAnswer::MAX_STEPS);
-    let cells = smaller(numbers.len() as u64, values.len() as u64) as usize;
+    let most = limit.min(RunAnswer::MAX_STEPS);
+    let cells = numbers.len().min(values.len());
     let a = lengths[0];
     let b = a + lengths[1];
     let c = b + lengths[2];

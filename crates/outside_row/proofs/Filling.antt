@@ -2,7 +2,7 @@
 use mathlib.Core.Path.{◌≡◌, sym, ap, ◌∙◌, subst}
 use mathlib.Core.List.{List, []}
 use mathlib.Core.Logic.{◌⊎◌, inl, inr}
-use Prim.Native.Nat.{ℕ, zero, suc, ◌+◌, ◌<◌, ◌≤◌}
+use Prim.Native.Nat.{ℕ, zero, suc, ◌+◌, ◌*◌, ◌-◌, ◌<◌, ◌≤◌}
 use native.Mathlib.Nat.{eq-or-lt_of_le}
 use native.Mathlib.Omega.{arith}
 use lib.ListN.{length, get_or, set, length-set}
@@ -79,6 +79,20 @@ unfolding first_of
 fill_first row size =
     record { size = size; index = λ v n j l. absurd (omega (arith, first-from v)); key = λ v n j l. absurd (omega (arith, first-from v)) }
 
+-- `ones_of`, from one number of variables to the next
+pub ones_next : (u v n : ℕ) → u + 1 ≡ v → n ≡ ones_of u → 1 + 8 * n ≡ ones_of v
+unfolding ones_of
+ones_next u v n p e = let q : suc u ≡ v = omega arith in omega (arith, e, ap ones_of q)
+
+pub ones_few : (v n : ℕ) → v ≤ 4 → n ≡ ones_of (v - 1) → n ≤ 73
+unfolding ones_of
+ones_few zero n h e = omega (arith, e)
+ones_few (suc zero) n h e = omega (arith, e)
+ones_few (suc (suc zero)) n h e = omega (arith, e)
+ones_few (suc (suc (suc zero))) n h e = omega (arith, e)
+ones_few (suc (suc (suc (suc zero)))) n h e = omega (arith, e)
+ones_few (suc (suc (suc (suc (suc v))))) n h e = absurd (omega arith)
+
 pub fill_last : (row : List ℕ) → LoadedTo (first_of 5) row → IsTable row
 unfolding first_of
 fill_last row f =
@@ -118,7 +132,7 @@ module _ (v n : ℕ) (is : HasEntry v n) (row : List ℕ) (f : LoadedTo (first_o
 
   -- an entry that is in the row: one from before, or this one
   in_row : (P : ℕ → ℕ → Type 0) → P v n → ((u m : ℕ) → HasEntry u m → first_of u + m < first_of v + n → P u m)
-      → (u m : ℕ) → HasEntry u m → first_of u + m < first_of v + n + 1 → P u m
+      → (u m : ℕ) → HasEntry u m → first_of u + m < first_of v + (n + 1) → P u m
   in_row P new old u m j l = go (eq-or-lt_of_le (omega arith))
     where
       go : (first_of u + m ≡ first_of v + n) ⊎ (first_of u + m < first_of v + n) → P u m
@@ -127,7 +141,7 @@ module _ (v n : ℕ) (is : HasEntry v n) (row : List ℕ) (f : LoadedTo (first_o
           subst (λ (w : ℕ). P w m) (sym p) (subst (λ (k : ℕ). P v k) (sym q) new)
       go (inr k) = old u m j k
 
-  fill_more : LoadedTo (first_of v + n + 1) (set (set row (first_of v + n) (key_of (get_or (entries_for v) n []))) (slot_of (get_or (entries_for v) n [])) n)
+  fill_more : LoadedTo (first_of v + (n + 1)) (set (set row (first_of v + n) (key_of (get_or (entries_for v) n []))) (slot_of (get_or (entries_for v) n [])) n)
   unfolding next keyed slot code
   fill_more =
       record {
@@ -144,6 +158,6 @@ module _ (v n : ℕ) (is : HasEntry v n) (row : List ℕ) (f : LoadedTo (first_o
             (λ u m j l. other (first_of u + m) (λ e. omega (arith, listed_slot v n is, first-from u)) (λ e. omega arith) ∙ f.key u m j l);
       }
 
-pub fill_next : (v n place k slot : ℕ) (row : List ℕ) → HasEntry v n → place ≡ first_of v + n → k ≡ key_of (get_or (entries_for v) n [])
-    → slot ≡ slot_of (get_or (entries_for v) n []) → LoadedTo place row → LoadedTo (place + 1) (set (set row place k) slot n)
-fill_next v n place k slot row is p q r f = rw (p, q, r) (fill_more v n is row (subst (λ (x : ℕ). LoadedTo x row) p f))
+pub fill_next : (v n start k slot : ℕ) (row : List ℕ) → HasEntry v n → start ≡ first_of v → k ≡ key_of (get_or (entries_for v) n [])
+    → slot ≡ slot_of (get_or (entries_for v) n []) → LoadedTo (start + n) row → LoadedTo (start + (n + 1)) (set (set row (start + n) k) slot n)
+fill_next v n start k slot row is p q r f = rw (p, q, r) (fill_more v n is row (subst (λ (x : ℕ). LoadedTo (x + n) row) p f))

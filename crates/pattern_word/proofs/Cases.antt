@@ -1,18 +1,19 @@
--- A code lies inside, above or below, and has its mark by that. Two codes are compared in nine cases, by their number: three times the position of the
--- one plus the position of the other. `position` and `less` answer by these laws.
-use mathlib.Core.Path.{◌≡◌, refl, sym, ap, ap₂}
+-- A code lies inside, above or below, and has its mark by that. Two codes are compared in nine cases, by their positions: `less`
+-- answers by these laws.
+use mathlib.Core.Path.{◌≡◌, refl, ap, ap₂}
 use mathlib.Core.Bool.{Bool, true, false}
-use mathlib.Core.List.{List, [], ◌∷◌}
-use Prim.Native.Nat.{ℕ, zero, suc, ◌+◌, ◌*◌, ◌-◌, ◌<◌, ◌≤◌}
+use Prim.Native.Nat.{ℕ, ◌+◌, ◌-◌, ◌<◌, ◌≤◌}
 use native.Mathlib.Omega.{arith}
-use lib.ListN.{get_or}
 use lib.IntN.{ℤ, pos, ◌+ℤ◌}
 use lib.Dec.{ltb, ltb→lt, lt→ltb}
 use borrow.Author.Tests.{ltb-true, ltb-false, lt-ltb, le-ltb}
-use Rattle.model.specs.Pattern.{Mark, above, inside, below}
+use Rattle.model.specs.Pattern.{above, inside, below}
 use Rattle.model.specs.Inner.Marks.{less_mark}
 use Rattle.model.proofs.Integers.{same_test}
-use Rattle.pattern_word.specs.Inner.Pattern.{mark_of, position_of, less_of}
+use Rattle.pattern_word.specs.Inner.Pattern.{mark_of, less_of}
+use Rattle.pattern_word.specs.Inner.Position.{position_of}
+use Rattle.pattern_word.specs.declared.Position.{Position}
+use Rattle.pattern_word.specs.declared.Position.TheVariants.{Below, Inside, Above}
 
 -- ---- where a code lies, and its mark
 pub mark_of-inside : (lo : ℤ) (w c : ℕ) → c < w → mark_of lo w c ≡ inside (lo +ℤ pos c)
@@ -50,30 +51,25 @@ lies lo w c = go (ltb c w) (ltb c (w + 4)) refl refl
         let p : 0 < c + 1 - (w + 4) = omega arith in
         lies_below (c + 1 - (w + 4)) e p (mark-below lo w c (c + 1 - (w + 4)) e p)
 
--- ---- position
-pub at-inside : (w c : ℕ) → c < w → 1 ≡ position_of (mark_of (pos 0) w c)
-unfolding position_of
-at-inside w c h = sym (ap position_of (mark_of-inside (pos 0) w c h))
-
-pub at_above : (w c : ℕ) → w ≤ c → c < w + 4 → 2 ≡ position_of (mark_of (pos 0) w c)
-unfolding position_of
-at_above w c h k = sym (ap position_of (mark-above (pos 0) w c (c + 1 - w) (omega arith) (omega arith) (omega arith)))
-
-pub at-below : (w c : ℕ) → w + 4 ≤ c → 0 ≡ position_of (mark_of (pos 0) w c)
-unfolding position_of
-at-below w c h = sym (ap position_of (mark-below (pos 0) w c (c + 1 - (w + 4)) (omega arith) (omega arith)))
-
 -- ---- less
--- the answers of the nine cases, in the order of their numbers
-abbrev pub answers : (c d : ℕ) → List Bool
-answers c d = ltb d c ∷ true ∷ true ∷ false ∷ ltb c d ∷ true ∷ false ∷ false ∷ ltb c d ∷ []
+-- the answers of the nine cases
+abbrev pub by_positions : (p q : Position) (c d : ℕ) → Bool
+by_positions Below Below c d = ltb d c
+by_positions Below Inside c d = true
+by_positions Below Above c d = true
+by_positions Inside Below c d = false
+by_positions Inside Inside c d = ltb c d
+by_positions Inside Above c d = true
+by_positions Above Below c d = false
+by_positions Above Inside c d = false
+by_positions Above Above c d = ltb c d
 
 -- of two codes on one side the greater has the greater rank
 less_by : (m c d j k : ℕ) → c + 1 ≡ m + j → d + 1 ≡ m + k → ltb c d ≡ ltb j k
 less_by m c d j k e f = same_test (ltb c d) (ltb j k)
     (λ t. lt→ltb j k (omega (arith, ltb→lt c d t))) (λ t. lt→ltb c d (omega (arith, ltb→lt j k t)))
 
-cases : (w c d : ℕ) → get_or (answers c d) (3 * position_of (mark_of (pos 0) w c) + position_of (mark_of (pos 0) w d)) false ≡ less_of w c d
+pub cases : (w c d : ℕ) → by_positions (position_of (mark_of (pos 0) w c)) (position_of (mark_of (pos 0) w d)) c d ≡ less_of w c d
 unfolding position_of less_of less_mark
 cases w c d = go (lies (pos 0) w c) (lies (pos 0) w d)
   where
@@ -81,7 +77,7 @@ cases w c d = go (lies (pos 0) w c) (lies (pos 0) w d)
     from_zero e = omega arith
 
     go : Lies (pos 0) w c → Lies (pos 0) w d
-        → get_or (answers c d) (3 * position_of (mark_of (pos 0) w c) + position_of (mark_of (pos 0) w d)) false
+        → by_positions (position_of (mark_of (pos 0) w c)) (position_of (mark_of (pos 0) w d)) c d
         ≡ less_mark (mark_of (pos 0) w c) (mark_of (pos 0) w d)
     go (lies_below j e p m) (lies_below k f q n) = rw (m, n) (less_by (w + 4) d c k j f e)
     go (lies_below j e p m) (lies_inside k n) = rw (m, n)
@@ -93,24 +89,7 @@ cases w c d = go (lies (pos 0) w c) (lies (pos 0) w d)
     go (lies_above j e p o m) (lies_inside k n) = rw (m, n)
     go (lies_above j e p o m) (lies_above k f q r n) = rw (m, n) (less_by w c d j k e f)
 
-pub case_answer : (k w c d : ℕ) {p q : ℕ} → p ≡ position_of (mark_of (pos 0) w c) → q ≡ position_of (mark_of (pos 0) w d) → 3 * p + q ≡ k
-    → get_or (answers c d) k false ≡ less_of w c d
-case_answer k w c d ep eq ek = rw (sym ek, ep, eq) (cases w c d)
-
--- there is no tenth case: a position is at most 2, and a number that is none of those below n is at least n
-pub position_few : {p : ℕ} (m : Mark) → p ≡ position_of m → p ≤ 2
-unfolding position_of
-position_few (below k) e = omega arith
-position_few (inside z) e = omega arith
-position_few (above k) e = omega arith
-
-abbrev pub NoneBelow : (n k : ℕ) → Type 0
-NoneBelow zero k = Unit {0}
-NoneBelow (suc n) k = NoneBelow n k × (k ≡ n → ⊥)
-
-past : (n k : ℕ) → NoneBelow n k → n ≤ k
-past zero k h = omega arith
-past (suc n) k (h, e) = let g = past n k h in omega arith
-
-pub no_case : {p q : ℕ} → p ≤ 2 → q ≤ 2 → NoneBelow 9 (3 * p + q) → ⊥
-no_case {p} {q} h k n = omega (arith, past 9 (3 * p + q) n)
+-- of codes at positions p and q
+pub case_answer : (w c d : ℕ) {p q : Position} → p ≡ position_of (mark_of (pos 0) w c) → q ≡ position_of (mark_of (pos 0) w d)
+    → by_positions p q c d ≡ less_of w c d
+case_answer w c d ep eq = rw (ep, eq) (cases w c d)

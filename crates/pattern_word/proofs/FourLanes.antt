@@ -1,12 +1,12 @@
 -- The pattern word of values: its lanes are the codes of the values, it is a word of 64 bits, and it is told by its lanes. And four lanes as the
--- code packs them, with 1 in a lane.
+-- code packs them.
 use mathlib.Core.Path.{◌≡◌, sym, ap, ◌∙◌, subst}
 use mathlib.Core.List.{List, [], ◌∷◌}
 use Prim.Native.Nat.{ℕ, ◌≤◌, ◌<◌, ◌^◌, ◌+◌, ◌*◌}
 use native.Mathlib.Omega.{arith}
 use lib.ListN.{length, set, length-set, get_or}
 use Rattle.pattern_word.specs.Inner.Digits.{digits, undigits, Below}
-use Rattle.pattern_word.specs.Inner.Pattern.{Width, lane, pattern_words, store_of, recall_of, lanes, codes_of, values_of, word_of, assign_of, Valid, unit_of}
+use Rattle.pattern_word.specs.Inner.Pattern.{Width, lane, pattern_words, store_of, recall_of, lanes, codes_of, values_of, word_of, assign_of, Valid}
 use Rattle.pattern_word.proofs.Digits.{length_digits, digits-undigits, power, undigits-below, four-again}
 use Rattle.pattern_word.proofs.Ranks.{length_codes, length-values}
 use Rattle.pattern_word.proofs.Marks.{codes_again}
@@ -79,17 +79,9 @@ module _ (w : ℕ) (h : Width w) where
     unfolding assign_of
     valid-assign = valid-word (values_with w p v y) (length_with w p v y)
 
--- ---- `word`, `assign`
+-- ---- `word`
 pub word_below : (w : ℕ) → Width w → (s c d : List ℕ) → length s ≡ 4 → c ≡ codes_of w s → d ≡ store_of w c → Below lane d
 word_below w h s c d l ec ed = subst (Below lane) (sym (ed ∙ ap (store_of w) ec)) (stored_below w h s l)
-
-pub word-is : (w r : ℕ) (s c d : List ℕ) → c ≡ codes_of w s → d ≡ store_of w c → r ≡ undigits lane d → r ≡ word_of w s
-unfolding word_of
-word-is w r s c d ec ed er = rw (er, ed, ec)
-
-pub assign-is : (w p v y r : ℕ) (x s : List ℕ) → x ≡ values_of w (lanes w p) → s ≡ set x v y → r ≡ word_of w s → r ≡ assign_of w p v y
-unfolding assign_of
-assign-is w p v y r x s ex es er = rw (er, es, ex)
 
 -- ---- `pack`
 pub pack_four : (l : List ℕ) → length l ≡ 4 → get_or l 0 0 + lane * (get_or l 1 0 + lane * (get_or l 2 0 + lane * get_or l 3 0)) ≡ undigits lane l
@@ -98,20 +90,3 @@ pack_four l h = made (get_or l 0 0) (get_or l 1 0) (get_or l 2 0) (get_or l 3 0)
   where
     made : (a b c d : ℕ) → a + lane * (b + lane * (c + lane * d)) ≡ undigits lane (a ∷ b ∷ c ∷ d ∷ [])
     made a b c d = omega arith
-
--- ---- units
-pub unit_0 : (v : ℕ) → v ≡ 0 → 1 ≡ unit_of v
-unfolding unit_of
-unit_0 v e = rw e
-
-pub unit_1 : (v : ℕ) → v ≡ 1 → lane ≡ unit_of v
-unfolding unit_of
-unit_1 v e = rw e
-
-pub unit_2 : (v : ℕ) → v ≡ 2 → lane * lane ≡ unit_of v
-unfolding unit_of
-unit_2 v e = rw e
-
-pub unit_3 : (v : ℕ) → v ≡ 3 → lane * (lane * lane) ≡ unit_of v
-unfolding unit_of
-unit_3 v e = rw e

@@ -1,4 +1,5 @@
 pub mod Digits
+pub mod Turns
 pub mod Ranks
 pub mod Cases
 pub mod Span

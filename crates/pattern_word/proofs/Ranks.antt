@@ -1,15 +1,18 @@
 -- Codes of four values: how many different values lie between two numbers, and what a code is. The functions from `counted` to `values`
 -- answer by these laws.
-use mathlib.Core.Path.{◌≡◌, refl, sym, ap, ◌∙◌}
+use mathlib.Core.Path.{◌≡◌, refl, sym, ap, ap₂, ◌∙◌}
 use mathlib.Core.Bool.{Bool, true, false, not, cond, ◌&&◌, ◌||◌}
 use mathlib.Core.List.{List, [], ◌∷◌, map}
 use Prim.Native.Nat.{ℕ, zero, suc, ◌+◌, ◌*◌, ◌-◌, ◌<◌, ◌≤◌}
 use native.Mathlib.Omega.{arith}
-use lib.ListN.{length, get_or, length-map}
+use lib.ListN.{length, get_or, take, drop, length-map, length-drop, drop_of_length-le}
+use Rattle.std.specs.List.{list_any}
+use Rattle.std.proofs.lemmas.List.{take_all, at_drop_more}
+use Rattle.model.proofs.Integers.{same_test}
+use mir.Facts.{eqb_yes, yes_eqb}
 use lib.Dec.{ltb, eqb}
-use borrow.Author.Tests.{ltb-false, lt-ltb, le-ltb, le-leb, lt-leb, eq-eqb, ne_eqb}
+use borrow.Author.Tests.{ltb-false, lt-ltb, le-ltb, le-leb, lt-leb}
 use Rattle.pattern_word.specs.Inner.Pattern.{low, high, within, member, different_within, lane_code, codes_of, value_of, values_of}
-use Rattle.pattern_word.proofs.Digits.{map-four, four-again}
 use Rattle.pattern_word.specs.Inner.Digits.{Below}
 
 -- ---- counted: the four ways through it
@@ -25,36 +28,46 @@ counted-again n p q x b h k e = rw (le-leb p x h, le-leb x q k, e)
 pub counted-new : (n p q x : ℕ) (b : Bool) → p ≤ x → x ≤ q → b ≡ false → n + 1 ≡ cond (within p q x && not b) (suc n) n
 counted-new n p q x b h k e = rw (le-leb p x h, le-leb x q k, e) (omega arith)
 
--- ---- membership in two or three values
-or_false : (b : Bool) → b || false ≡ b
-or_false true = refl
-or_false false = refl
-
-pub member-here : (x b : ℕ) (l : List ℕ) → x ≡ b → true ≡ member x (b ∷ l)
+-- ---- count: a turn, at the value in place j, the next being i
+pub member_any : (x : ℕ) (l : List ℕ) → list_any (λ y. eqb y x) l ≡ member x l
 unfolding member
-member-here x b l e = rw (eq-eqb x b e)
+member_any x [] = refl
+member_any x (y ∷ l) = ap₂ ◌||◌ (eqb_sym y x) (member_any x l)
+  where
+    eqb_sym : (a b : ℕ) → eqb a b ≡ eqb b a
+    eqb_sym a b = same_test (eqb a b) (eqb b a) (λ t. yes_eqb (sym (eqb_yes t))) (λ t. yes_eqb (sym (eqb_yes t)))
 
-pub member_there : (x b : ℕ) (l : List ℕ) (r : Bool) → (x ≡ b → ⊥) → r ≡ member x l → r ≡ member x (b ∷ l)
-unfolding member
-member_there x b l r e h = rw (ne_eqb x b e) h
+module _ (p q : ℕ) (l : List ℕ) (i j n : ℕ) (next : j + 1 ≡ i) (h : j < length l) (is : n ≡ different_within p q (drop i l)) where
+  turn : different_within p q (drop j l) ≡ cond (within p q (get_or l j 0) && not (member (get_or l j 0) (drop i l))) (suc n) n
+  unfolding different_within
+  turn =
+      at_drop_more (different_within p q) l j 0 h ∙ ap (λ (k : ℕ). different_within p q (get_or l j 0 ∷ drop k l)) next
+      ∙ ap (λ (m : ℕ). cond (within p q (get_or l j 0) && not (member (get_or l j 0) (drop i l))) (suc m) m) (sym is)
 
-pub member-last : (x c : ℕ) → eqb x c ≡ member x (c ∷ [])
-unfolding member
-member-last x c = sym (or_false (eqb x c))
+  pub count-under : get_or l j 0 < p → n ≡ different_within p q (drop j l)
+  count-under k = counted-under n p q (get_or l j 0) (member (get_or l j 0) (drop i l)) k ∙ sym turn
 
--- ---- count
-pub count-four : (p q a b c d n1 n2 n3 r : ℕ) (y z : Bool) →
-    n1 ≡ cond (within p q d && not false) (suc 0) 0 →
-    n2 ≡ cond (within p q c && not (eqb c d)) (suc n1) n1 →
-    y ≡ member b (c ∷ d ∷ []) → n3 ≡ cond (within p q b && not y) (suc n2) n2 →
-    z ≡ member a (b ∷ c ∷ d ∷ []) → r ≡ cond (within p q a && not z) (suc n3) n3 →
-    r ≡ different_within p q (a ∷ b ∷ c ∷ d ∷ [])
-unfolding different_within member
-count-four p q a b c d n1 n2 n3 r y z e1 e2 ey e3 ez e4 = rw (e4, ez, e3, ey, e2, e1, or_false (eqb c d))
+  pub count-over : p ≤ get_or l j 0 → q < get_or l j 0 → n ≡ different_within p q (drop j l)
+  count-over k m = counted-over n p q (get_or l j 0) (member (get_or l j 0) (drop i l)) k m ∙ sym turn
 
-pub count-list : (p q : ℕ) (v : List ℕ) → length v ≡ 4 → (r : ℕ) → r ≡ different_within p q (get_or v 0 0 ∷ get_or v 1 0 ∷ get_or v 2 0 ∷ get_or v 3 0 ∷ [])
-    → r ≡ different_within p q v
-count-list p q v h r e = e ∙ ap (different_within p q) (four-again v h)
+  -- what is looked through is the rest of the values
+  module _ (four : length l ≡ 4) (b : Bool) (looked : b ≡ list_any (λ y. eqb y (get_or l j 0)) (take (4 - (j + 1)) (drop (j + 1) l))) where
+    again : b ≡ member (get_or l j 0) (drop i l)
+    again =
+        looked ∙ ap (list_any (λ y. eqb y (get_or l j 0))) (rest ∙ ap (λ (k : ℕ). drop k l) next) ∙ member_any (get_or l j 0) (drop i l)
+      where
+        rest : take (4 - (j + 1)) (drop (j + 1) l) ≡ drop (j + 1) l
+        rest = take_all (4 - (j + 1)) (drop (j + 1) l) (omega (arith, length-drop (j + 1) l, four))
+
+    pub count-again : p ≤ get_or l j 0 → get_or l j 0 ≤ q → b ≡ true → n ≡ different_within p q (drop j l)
+    count-again k m e = counted-again n p q (get_or l j 0) (member (get_or l j 0) (drop i l)) k m (sym again ∙ e) ∙ sym turn
+
+    pub count-new : p ≤ get_or l j 0 → get_or l j 0 ≤ q → b ≡ false → n + 1 ≡ different_within p q (drop j l)
+    count-new k m e = counted-new n p q (get_or l j 0) (member (get_or l j 0) (drop i l)) k m (sym again ∙ e) ∙ sym turn
+
+pub count-end : (p q : ℕ) (l : List ℕ) (i : ℕ) → length l ≤ i → 0 ≡ different_within p q (drop i l)
+unfolding different_within
+count-end p q l i h = ap (different_within p q) (sym (drop_of_length-le l {i = i} h))
 
 pub among-length : (p q : ℕ) (v : List ℕ) → different_within p q v ≤ length v
 unfolding different_within
@@ -77,11 +90,6 @@ code_under w x n v h k e = rw (le-ltb (15 + w) x h, lt-ltb x 16 k, e)
 pub code_inside : (w x : ℕ) (v : List ℕ) → x ≤ 15 + w → 16 ≤ x → x - 16 ≡ lane_code w v x
 unfolding lane_code
 code_inside w x v h k = rw (le-ltb (15 + w) x h, le-ltb x 16 k)
-
-pub codes_four : (w a b c d : ℕ) (v : List ℕ) → length v ≡ 4 → a ≡ lane_code w v (get_or v 0 0) → b ≡ lane_code w v (get_or v 1 0) →
-    c ≡ lane_code w v (get_or v 2 0) → d ≡ lane_code w v (get_or v 3 0) → a ∷ b ∷ c ∷ d ∷ [] ≡ codes_of w v
-unfolding codes_of
-codes_four w a b c d v h e1 e2 e3 e4 = rw (e1, e2, e3, e4) (map-four (lane_code w v) v h)
 
 -- whatever the values, a code is below w + 8
 pub code_below : (w : ℕ) (v : List ℕ) (x : ℕ) → length v ≤ 4 → lane_code w v x < w + 8
@@ -119,14 +127,6 @@ value-above w c h k = rw (le-ltb c w h, lt-ltb c (w + 4) k)
 pub value-below : (w c : ℕ) → w + 4 ≤ c → 16 - 2 * (c + 1 - (w + 4)) ≡ value_of w c
 unfolding value_of
 value-below w c h = rw (le-ltb c w (omega arith), le-ltb c (w + 4) h)
-
-pub value_out : (w c : ℕ) → w + 4 ≤ c → 16 < 2 * (c + 1 - (w + 4)) → 0 ≡ value_of w c
-value_out w c h k = (let e : 0 ≡ 16 - 2 * (c + 1 - (w + 4)) = omega arith in e) ∙ value-below w c h
-
-pub values-four : (w a b c d : ℕ) (v : List ℕ) → length v ≡ 4 → a ≡ value_of w (get_or v 0 0) → b ≡ value_of w (get_or v 1 0) →
-    c ≡ value_of w (get_or v 2 0) → d ≡ value_of w (get_or v 3 0) → a ∷ b ∷ c ∷ d ∷ [] ≡ values_of w v
-unfolding values_of
-values-four w a b c d v h e1 e2 e3 e4 = rw (e1, e2, e3, e4) (map-four (value_of w) v h)
 
 pub length-values : (w : ℕ) (v : List ℕ) → length (values_of w v) ≡ length v
 unfolding values_of

@@ -1,145 +1,94 @@
--- The functions on digits and codes, from the first variable to the last or back: what each does with what it was given, one law to an answer.
+-- The functions on digits and codes, variable by variable: the turns of their loops, and their ends.
 use mathlib.Core.Path.{◌≡◌, refl, sym, ap, ap₂, ◌∙◌, subst}
-use mathlib.Core.Bool.{Bool, true, false, cond, ◌&&◌}
-use mathlib.Core.List.{List, [], ◌∷◌}
+use mathlib.Core.Bool.{Bool, true, false, cond}
+use mathlib.Core.List.{List, [], ◌∷◌, ◌++◌}
 use Prim.Native.Nat.{ℕ, zero, suc, ◌+◌, ◌*◌, ◌-◌, ◌/◌, ◌%◌, ◌<◌, ◌≤◌}
 use native.Mathlib.Omega.{arith}
-use lib.ListN.{length, get_or, drop}
-use lib.Dec.{leb, ltb}
-use borrow.Author.Tests.{ltb-true, leb-true, lt-ltb, le-ltb, le-leb, lt-leb}
+use lib.ListN.{length, get_or, set, take, drop, length-drop, drop_of_length-le}
+use Rattle.std.proofs.lemmas.List.{get_or-drop, at_drop_more}
+use lib.Dec.{ltb}
+use borrow.Author.Tests.{ltb-true, lt-ltb}
 use Rattle.graph.specs.Lists.{In}
 use Rattle.outside_row.specs.Inner.Table.{IsEntry, entries_for, key_of, slot_of, key_at, place_in}
-use Rattle.outside_row.proofs.Keys.{Octal, key-head, key_rest}
+use Rattle.outside_row.proofs.Keys.{Octal, key-head, key_rest, slot_below, all_drop}
 use Rattle.outside_row.proofs.Entries.{entry_octal}
 use Rattle.pattern_word.specs.Inner.Digits.{digits, Below}
-use Rattle.pattern_word.specs.Inner.Pattern.{Width, lane, lanes, excess, recall_from, recall_of, AreCodes, store_from, store_of, low, high, within}
-use Rattle.pattern_word.proofs.Digits.{length_digits, four-again}
+use Rattle.pattern_word.specs.Inner.Pattern.{Width, lane, lanes, excess, recall_from, recall_of, AreCodes, store_from, store_of}
+use Rattle.pattern_word.proofs.Digits.{length_digits}
+use Rattle.pattern_word.proofs.Turns.{write_turn, all_written}
 use Rattle.pattern_word.proofs.Ranks.{codes_below, length_codes}
-use Rattle.pattern_word.proofs.Stored.{excess-inside, excess-outside, InOrOut, lower, upper, in_or_out, none_stored, none_recalled, excess-few, codes_storable}
+use Rattle.pattern_word.proofs.Stored.{excess-inside, store_inside, recall_inside, excess-outside, store_outside, recall_outside, InOrOut, lower, upper, in_or_out, none_stored, none_recalled, excess-few, codes_storable}
 
--- ---- `select`
-pub select_inside : (d w a b : ℕ) → d < w → a ≡ cond (ltb d w) a b
-select_inside d w a b h = rw (lt-ltb d w h)
+-- ---- `outs`, `index`, `slots`: one number of a list, by its place j, the next being i
+module _ (w : ℕ) (l : List ℕ) (i j : ℕ) (next : j + 1 ≡ i) (h : j < length l) where
+  at-place : excess w (drop j l) ≡ excess w (get_or l j 0 ∷ drop i l)
+  at-place = at_drop_more (excess w) l j 0 h ∙ ap (λ (n : ℕ). excess w (get_or l j 0 ∷ drop n l)) next
 
-pub select_outside : (d w a b : ℕ) → w ≤ d → b ≡ cond (ltb d w) a b
-select_outside d w a b h = rw (le-ltb d w h)
+  pub drop_inside : get_or l j 0 < w → excess w (drop j l) ≡ excess w (drop i l)
+  drop_inside k = at-place ∙ excess-inside w (get_or l j 0) k (drop i l)
 
--- ---- `more`, `excess_of`, `slot`: one variable more before those that were met; `outs`, `index`, `slots`: all four
--- what is folded over the excess, F, one number by one, as step says
-module _ (w : ℕ) (F : List ℕ → ℕ) (step : ℕ → ℕ → ℕ) (is : (c : ℕ) (l : List ℕ) → F ((c - w) ∷ l) ≡ step c (F l)) where
-  abbrev next : ℕ → ℕ → ℕ
-  next c n = cond (ltb c w) n (step c n)
+  pub drop_outside : w ≤ get_or l j 0 → excess w (drop j l) ≡ (get_or l j 0 - w) ∷ excess w (drop i l)
+  drop_outside k = at-place ∙ excess-outside w (get_or l j 0) k (drop i l)
 
-  one : (c : ℕ) (cs : List ℕ) → next c (F (excess w cs)) ≡ F (excess w (c ∷ cs))
-  one c cs = go (in_or_out w c)
-    where
-      go : InOrOut w c → next c (F (excess w cs)) ≡ F (excess w (c ∷ cs))
-      go (lower h) = rw (lt-ltb c w h) (ap F (sym (excess-inside w c h cs)))
-      go (upper h) = rw (le-ltb c w h) (sym (is c (excess w cs)) ∙ ap F (sym (excess-outside w c h cs)))
+  pub slot_inside : get_or l j 0 < w → (s : ℕ) → s ≡ slot_of (excess w (drop i l)) → s ≡ slot_of (excess w (drop j l))
+  slot_inside k s e = e ∙ ap slot_of (sym (drop_inside k))
 
-  pub folded : (l : List ℕ) → length l ≡ 4 → (a b c r : ℕ) → a ≡ next (get_or l 3 0) (F []) → b ≡ next (get_or l 2 0) a → c ≡ next (get_or l 1 0) b
-      → r ≡ next (get_or l 0 0) c → r ≡ F (excess w l)
-  unfolding excess
-  folded l h a b c r ea eb ec er = er ∙ ap (next (get_or l 0 0)) third ∙ one (get_or l 0 0) (get_or l 1 0 ∷ get_or l 2 0 ∷ get_or l 3 0 ∷ []) ∙ ap (λ (k : List ℕ). F (excess w k)) (four-again l h)
-    where
-      first : a ≡ F (excess w (get_or l 3 0 ∷ []))
-      first = ea ∙ one (get_or l 3 0) []
-
-      second : b ≡ F (excess w (get_or l 2 0 ∷ get_or l 3 0 ∷ []))
-      second = eb ∙ ap (next (get_or l 2 0)) first ∙ one (get_or l 2 0) (get_or l 3 0 ∷ [])
-
-      third : c ≡ F (excess w (get_or l 1 0 ∷ get_or l 2 0 ∷ get_or l 3 0 ∷ []))
-      third = ec ∙ ap (next (get_or l 1 0)) second ∙ one (get_or l 1 0) (get_or l 2 0 ∷ get_or l 3 0 ∷ [])
-
-module _ (w : ℕ) (l : List ℕ) (h : length l ≡ 4) (a b c r : ℕ) where
-  pub outs_four : a ≡ cond (ltb (get_or l 3 0) w) 0 1 → b ≡ cond (ltb (get_or l 2 0) w) a (suc a) → c ≡ cond (ltb (get_or l 1 0) w) b (suc b)
-      → r ≡ cond (ltb (get_or l 0 0) w) c (suc c) → r ≡ length (excess w l)
-  outs_four = folded w length (λ c n. suc n) (λ c k. refl) l h a b c r
-
-  pub index-four : a ≡ cond (ltb (get_or l 3 0) w) 0 (get_or l 3 0 - w) → b ≡ cond (ltb (get_or l 2 0) w) a (get_or l 2 0 - w)
-      → c ≡ cond (ltb (get_or l 1 0) w) b (get_or l 1 0 - w) → r ≡ cond (ltb (get_or l 0 0) w) c (get_or l 0 0 - w) → r ≡ get_or (excess w l) 0 0
-  index-four = folded w (λ k. get_or k 0 0) (λ c n. c - w) (λ c k. refl) l h a b c r
-
-  pub slots_four : a ≡ cond (ltb (get_or l 3 0) w) 0 (suc (get_or l 3 0 - w + 8 * 0)) → b ≡ cond (ltb (get_or l 2 0) w) a (suc (get_or l 2 0 - w + 8 * a))
-      → c ≡ cond (ltb (get_or l 1 0) w) b (suc (get_or l 1 0 - w + 8 * b)) → r ≡ cond (ltb (get_or l 0 0) w) c (suc (get_or l 0 0 - w + 8 * c))
-      → r ≡ slot_of (excess w l)
+  pub slot_outside : w ≤ get_or l j 0 → (s : ℕ) → s ≡ slot_of (excess w (drop i l)) → get_or l j 0 - w + 8 * s + 1 ≡ slot_of (excess w (drop j l))
   unfolding slot_of
-  slots_four = folded w slot_of (λ c n. suc (c - w + 8 * n)) (λ c k. refl) l h a b c r
+  slot_outside k s e = omega (arith, e, ap slot_of (drop_outside k))
+
+pub excess-end : (w : ℕ) (l : List ℕ) (i : ℕ) → length l ≤ i → excess w (drop i l) ≡ []
+unfolding excess
+excess-end w l i h = ap (excess w) (drop_of_length-le l {i = i} h)
+
+-- codes below w + 8 have ranks with numbers below 8
+octal_excess : (w : ℕ) (l : List ℕ) → Below (w + 8) l → Octal (excess w l)
+unfolding excess
+octal_excess w [] f = tt
+octal_excess w (c ∷ l) f = go (in_or_out w c) (octal_excess w l (λ i. f (suc i)))
+  where
+    go : InOrOut w c → Octal (excess w l) → Octal (excess w (c ∷ l))
+    go (lower h) o = subst (Octal) (sym (excess-inside w c h l)) o
+    go (upper h) o = subst (Octal) (sym (excess-outside w c h l)) (omega (arith, f 0), o)
+
+pub slots-few : (w : ℕ) (l : List ℕ) (i : ℕ) → Below (w + 8) l → length l ≤ 4 → slot_of (excess w (drop i l)) < 4681
+slots-few w l i f few =
+    slot_below (excess w (drop i l)) (octal_excess w (drop i l) (λ k. omega (arith, get_or-drop i l k 0, f (i + k))))
+    (omega (arith, excess-few w (drop i l), length-drop i l))
 
 -- ---- `recall_from`
--- what is left of an entry after the digit d
-module _ (w : ℕ) where
-  abbrev left : ℕ → List ℕ → List ℕ
-  left d l = cond (ltb d w) l (drop 1 l)
+octal_left : (w d : ℕ) (l : List ℕ) → Octal l → Octal (cond (ltb d w) l (drop 1 l))
+octal_left w d l a = go (ltb d w) l a
+  where
+    go : (b : Bool) (l : List ℕ) → Octal l → Octal (cond b l (drop 1 l))
+    go true l a = a
+    go false [] a = tt
+    go false (b ∷ l) (h, a) = a
 
-  octal_left : (d : ℕ) (l : List ℕ) → Octal l → Octal (left d l)
-  octal_left d l a = go (ltb d w) l a
-    where
-      go : (b : Bool) (l : List ℕ) → Octal l → Octal (cond b l (drop 1 l))
-      go true l a = a
-      go false [] a = tt
-      go false (b ∷ l) (h, a) = a
+-- a turn: the digit in place i, and the ranks r of those from there on
+module _ (w k i : ℕ) (l r : List ℕ) (h : i < length l) (o : Octal r) (e : k ≡ key_of r) where
+  pub recall_left : get_or l i 0 < w
+      → take (i + 1) (set l i (get_or l i 0)) ++ recall_from w (drop (i + 1) (set l i (get_or l i 0))) r ≡ take i l ++ recall_from w (drop i l) r
+  recall_left q =
+      write_turn (λ t. recall_from w t r) l i (get_or l i 0) h
+      ∙ ap (λ (t : List ℕ). take i l ++ t) (sym (at_drop_more (λ t. recall_from w t r) l i 0 h ∙ recall_inside w (get_or l i 0) q (drop (i + 1) l) r))
 
-  key_left : (d k : ℕ) (l : List ℕ) → Octal l → k ≡ key_of l → cond (ltb d w) k (k / 8) ≡ key_of (left d l)
-  key_left d k l a e = go (ltb d w)
-    where
-      go : (b : Bool) → cond b k (k / 8) ≡ key_of (cond b l (drop 1 l))
-      go true = e
-      go false = ap (λ (n : ℕ). n / 8) e ∙ key_rest l a
+  pub recall_written : w ≤ get_or l i 0
+      → take (i + 1) (set l i (w + k % 8)) ++ recall_from w (drop (i + 1) (set l i (w + k % 8))) (drop 1 r) ≡ take i l ++ recall_from w (drop i l) r
+  recall_written q =
+      write_turn (λ t. recall_from w t (drop 1 r)) l i (w + k % 8) h
+      ∙ ap (λ (n : ℕ). take i l ++ ((w + n) ∷ recall_from w (drop (i + 1) l) (drop 1 r))) (ap (λ (n : ℕ). n % 8) e ∙ key-head r o)
+      ∙ ap (λ (t : List ℕ). take i l ++ t) (sym (at_drop_more (λ t. recall_from w t r) l i 0 h ∙ recall_outside w (get_or l i 0) q (drop (i + 1) l) r))
 
-  code_left : (d k : ℕ) (l : List ℕ) → Octal l → k ≡ key_of l → cond (ltb d w) d (w + k % 8) ≡ cond (ltb d w) d (w + get_or l 0 0)
-  code_left d k l a e = ap (λ (n : ℕ). cond (ltb d w) d (w + n)) (ap (λ (n : ℕ). n % 8) e ∙ key-head l a)
+  pub octal_rest : Octal (drop 1 r)
+  octal_rest = all_drop 1 r o
 
-  module _ (d : List ℕ) (h : length d ≡ 4) (k l m n x y z u : ℕ) where
-    pub recall_from-four : l ≡ cond (ltb (get_or d 0 0) w) k (k / 8) → m ≡ cond (ltb (get_or d 1 0) w) l (l / 8) → n ≡ cond (ltb (get_or d 2 0) w) m (m / 8)
-        → x ≡ cond (ltb (get_or d 0 0) w) (get_or d 0 0) (w + k % 8) → y ≡ cond (ltb (get_or d 1 0) w) (get_or d 1 0) (w + l % 8)
-        → z ≡ cond (ltb (get_or d 2 0) w) (get_or d 2 0) (w + m % 8) → u ≡ cond (ltb (get_or d 3 0) w) (get_or d 3 0) (w + n % 8)
-        → (r : List ℕ) → Octal r → k ≡ key_of r → x ∷ y ∷ z ∷ u ∷ [] ≡ recall_from w d r
-    unfolding recall_from
-    recall_from-four el em en ex ey ez eu r o ek =
-        ap₂ ◌∷◌ (ex ∙ code_left d0 k r o ek)
-        (ap₂ ◌∷◌ (ey ∙ code_left d1 l r1 o1 e1)
-        (ap₂ ◌∷◌ (ez ∙ code_left d2 m r2 o2 e2) (ap₂ ◌∷◌ (eu ∙ code_left d3 n r3 o3 e3) refl)))
-        ∙ ap (λ (t : List ℕ). recall_from w t r) (four-again d h)
-      where
-        d0 : ℕ
-        d0 = get_or d 0 0
+  pub key-rest : k / 8 ≡ key_of (drop 1 r)
+  key-rest = ap (λ (n : ℕ). n / 8) e ∙ key_rest r o
 
-        d1 : ℕ
-        d1 = get_or d 1 0
-
-        d2 : ℕ
-        d2 = get_or d 2 0
-
-        d3 : ℕ
-        d3 = get_or d 3 0
-
-        r1 : List ℕ
-        r1 = left d0 r
-
-        r2 : List ℕ
-        r2 = left d1 r1
-
-        r3 : List ℕ
-        r3 = left d2 r2
-
-        o1 : Octal r1
-        o1 = octal_left d0 r o
-
-        o2 : Octal r2
-        o2 = octal_left d1 r1 o1
-
-        o3 : Octal r3
-        o3 = octal_left d2 r2 o2
-
-        e1 : l ≡ key_of r1
-        e1 = el ∙ key_left d0 k r o ek
-
-        e2 : m ≡ key_of r2
-        e2 = em ∙ key_left d1 l r1 o1 e1
-
-        e3 : n ≡ key_of r3
-        e3 = en ∙ key_left d2 m r2 o2 e2
+pub all_recalled : (w : ℕ) (r l : List ℕ) (i : ℕ) → length l ≤ i → l ≡ take i l ++ recall_from w (drop i l) r
+unfolding recall_from
+all_recalled w r = all_written (λ t. recall_from w t r) refl
 
 -- ---- `recall`
 no_length : (l : List ℕ) → length l ≡ 0 → l ≡ []
@@ -193,11 +142,22 @@ module _ (w pattern : ℕ) (h : Width w) where
   lane_inside u l k = recall_digit w (digits lane 4 pattern) _ u (omega (arith, length_digits lane 4 pattern)) k
 
 -- ---- `store_from`, `store`
-pub store_from-four : (w n : ℕ) (c : List ℕ) → length c ≡ 4 → (l m k x y z u : ℕ) → l ≡ cond (ltb (get_or c 0 0) w) n w → m ≡ cond (ltb (get_or c 1 0) w) l w
-    → k ≡ cond (ltb (get_or c 2 0) w) m w → x ≡ cond (ltb (get_or c 0 0) w) (get_or c 0 0) n → y ≡ cond (ltb (get_or c 1 0) w) (get_or c 1 0) l
-    → z ≡ cond (ltb (get_or c 2 0) w) (get_or c 2 0) m → u ≡ cond (ltb (get_or c 3 0) w) (get_or c 3 0) k → x ∷ y ∷ z ∷ u ∷ [] ≡ store_from w n c
+-- a turn: the code in place i
+module _ (w n i : ℕ) (l : List ℕ) (h : i < length l) where
+  pub store_left : get_or l i 0 < w
+      → take (i + 1) (set l i (get_or l i 0)) ++ store_from w n (drop (i + 1) (set l i (get_or l i 0))) ≡ take i l ++ store_from w n (drop i l)
+  store_left q =
+      write_turn (store_from w n) l i (get_or l i 0) h
+      ∙ ap (λ (t : List ℕ). take i l ++ t) (sym (at_drop_more (store_from w n) l i 0 h ∙ store_inside w (get_or l i 0) q n (drop (i + 1) l)))
+
+  pub store_written : w ≤ get_or l i 0 → take (i + 1) (set l i n) ++ store_from w w (drop (i + 1) (set l i n)) ≡ take i l ++ store_from w n (drop i l)
+  store_written q =
+      write_turn (store_from w w) l i n h
+      ∙ ap (λ (t : List ℕ). take i l ++ t) (sym (at_drop_more (store_from w n) l i 0 h ∙ store_outside w (get_or l i 0) q n (drop (i + 1) l)))
+
+pub all_stored : (w n : ℕ) (l : List ℕ) (i : ℕ) → length l ≤ i → l ≡ take i l ++ store_from w n (drop i l)
 unfolding store_from
-store_from-four w n c h l m k x y z u el em ek ex ey ez eu = rw (ex, ey, ez, eu, ek, em, el) (ap (store_from w n) (four-again c h))
+all_stored w n = all_written (store_from w n) refl
 
 module _ (w : ℕ) (h : Width w) (c : List ℕ) (k : AreCodes w c) where
   four : length c ≡ 4
@@ -231,24 +191,3 @@ module _ (w : ℕ) (h : Width w) (c : List ℕ) (k : AreCodes w c) where
   pub store_some : (n : ℕ) (r : List ℕ) → n ≡ place_in (entries_for (length (excess w c))) (excess w c) → r ≡ store_from w (w + n) c → r ≡ store_of w c
   unfolding store_of
   store_some n r en er = er ∙ ap (λ (i : ℕ). store_from w (w + i) c) en
-
--- ---- `is_inside`
-module _ (v w y : ℕ) where
-  pub inside_no_lane : 3 < v → false ≡ (ltb v 4 && within low (high w) y)
-  inside_no_lane h = rw (le-ltb v 4 (omega arith))
-
-  pub inside-below : v < 4 → y < 16 → false ≡ (ltb v 4 && within low (high w) y)
-  inside-below h k = rw (lt-ltb v 4 h, lt-leb 16 y k)
-
-  pub inside-up_to : v < 4 → 16 ≤ y → leb y (15 + w) ≡ (ltb v 4 && within low (high w) y)
-  inside-up_to h k = rw (lt-ltb v 4 h, le-leb 16 y k)
-
-  pub with_facts : (b : Bool) → b ≡ (ltb v 4 && within low (high w) y)
-      → (b ≡ (ltb v 4 && within low (high w) y)) × (b ≡ true → (v < 4) × (low ≤ y) × (y ≤ high w))
-  with_facts b e = (e, λ t. go (ltb v 4) (leb 16 y) (leb y (15 + w)) refl refl refl (sym e ∙ t))
-    where
-      go : (p q r : Bool) → ltb v 4 ≡ p → leb 16 y ≡ q → leb y (15 + w) ≡ r → (p && (q && r)) ≡ true → (v < 4) × (low ≤ y) × (y ≤ high w)
-      go true true true e f g h = (ltb-true v 4 e, leb-true 16 y f, leb-true y (15 + w) g)
-      go true true false e f g h = let z : ◌≡◌ {A = ℕ} 0 1 = cc in absurd (omega arith)
-      go true false r e f g h = let z : ◌≡◌ {A = ℕ} 0 1 = cc in absurd (omega arith)
-      go false q r e f g h = let z : ◌≡◌ {A = ℕ} 0 1 = cc in absurd (omega arith)

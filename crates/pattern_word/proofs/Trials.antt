@@ -5,7 +5,8 @@ use mathlib.Core.Bool.{Bool, true, false, cond}
 use mathlib.Core.List.{List, [], ◌∷◌}
 use Prim.Native.Nat.{ℕ, zero, suc, ◌+◌, ◌*◌, ◌-◌, ◌<◌, ◌≤◌, min, max}
 use native.Mathlib.Omega.{arith}
-use lib.ListN.{length, get_or, set}
+use lib.ListN.{length, get_or, set, drop, drop_of_length-le}
+use Rattle.std.proofs.lemmas.List.{at_drop_more}
 use lib.Dec.{ltb}
 use borrow.Author.Tests.{ltb-true, ltb-false, le-leb, ne_eqb}
 use Rattle.model.specs.Inner.Lists.{All}
@@ -14,20 +15,37 @@ use Rattle.pattern_word.specs.Inner.Digits.{undigits, Below}
 use Rattle.pattern_word.specs.Inner.Pattern.{lane, lanes, low, high, within, member, different_within, lane_code, codes_of, value_of, values_of}
 use Rattle.pattern_word.specs.Inner.Pattern.{store_of, word_of, assign_of, least_of, greatest_of, first_trial, last_trial}
 use Rattle.pattern_word.specs.Inner.Span.{Trial}
-use Rattle.pattern_word.proofs.Digits.{four-again}
 use Rattle.pattern_word.proofs.Ranks.{code_above, code_under}
 use Rattle.pattern_word.proofs.Recalled.{lanes-below}
 use Rattle.pattern_word.proofs.Fans.{map-all, member-set, within-under, within-over, Uncounted, code_set}
 
--- ---- the least and the greatest of four values
-module _ (n : ℕ) (s : List ℕ) (h : length s ≡ 4) (a b c r : ℕ) where
-  pub least-four : a ≡ min (get_or s 3 0) n → b ≡ min (get_or s 2 0) a → c ≡ min (get_or s 1 0) b → r ≡ min (get_or s 0 0) c → r ≡ least_of n s
-  unfolding least_of
-  least-four ea eb ec er = rw (er, ec, eb, ea) (ap (least_of n) (four-again s h))
+-- ---- the least and the greatest: a turn, at the value in place i, and the end
+least-min : (n x : ℕ) (l : List ℕ) → least_of (min n x) l ≡ min x (least_of n l)
+unfolding least_of
+least-min n x [] = omega arith
+least-min n x (y ∷ l) = omega (arith, least-min n x l)
 
-  pub greatest-four : a ≡ max (get_or s 3 0) n → b ≡ max (get_or s 2 0) a → c ≡ max (get_or s 1 0) b → r ≡ max (get_or s 0 0) c → r ≡ greatest_of n s
+greatest-max : (n x : ℕ) (l : List ℕ) → greatest_of (max n x) l ≡ max x (greatest_of n l)
+unfolding greatest_of
+greatest-max n x [] = omega arith
+greatest-max n x (y ∷ l) = omega (arith, greatest-max n x l)
+
+module _ (n : ℕ) (l : List ℕ) (i : ℕ) where
+  pub least-turn : i < length l → least_of (min n (get_or l i 0)) (drop (i + 1) l) ≡ least_of n (drop i l)
+  unfolding least_of
+  least-turn h = least-min n (get_or l i 0) (drop (i + 1) l) ∙ sym (at_drop_more (least_of n) l i 0 h)
+
+  pub greatest-turn : i < length l → greatest_of (max n (get_or l i 0)) (drop (i + 1) l) ≡ greatest_of n (drop i l)
   unfolding greatest_of
-  greatest-four ea eb ec er = rw (er, ec, eb, ea) (ap (greatest_of n) (four-again s h))
+  greatest-turn h = greatest-max n (get_or l i 0) (drop (i + 1) l) ∙ sym (at_drop_more (greatest_of n) l i 0 h)
+
+  pub least-end : length l ≤ i → n ≡ least_of n (drop i l)
+  unfolding least_of
+  least-end h = ap (least_of n) (sym (drop_of_length-le l {i = i} h))
+
+  pub greatest-end : length l ≤ i → n ≡ greatest_of n (drop i l)
+  unfolding greatest_of
+  greatest-end h = ap (greatest_of n) (sym (drop_of_length-le l {i = i} h))
 
 least-all : (m n : ℕ) (s : List ℕ) → m ≤ least_of n s → (m ≤ n) × All (λ x. m ≤ x) s
 unfolding least_of

@@ -1,3 +1,4 @@
 pub mod Digits
 pub mod Pattern
+pub mod Position
 pub mod Span

@@ -1,146 +1,72 @@
 // The pattern word: four codes, stored as digits of 16 bits (specs/Inner/Pattern.antt).
 //
-// w says how many whole numbers there are from C1 to C2; `table` is the row of crate outside_row, lent to all that looks into a pattern.
 // Codes are read, written, compared and ranked by `recall`, `store`, `less` and `codes`, and nowhere else. The ranks of variables outside are
-// looked up in the lent row of outside_row.
+// looked up in the row of outside_row.
 #![tactic(auto)]
 
-ghost use Rattle.std.specs.Prelude.{◌≡◌, true, cond, not, ◌&&◌, List, [], ◌∷◌, ℕ, suc, ◌+◌, ◌*◌, ◌-◌, ◌<◌, ◌≤◌, min, max, pos, length, get_or, set, ltb};
+ghost use Rattle.std.specs.Prelude.{◌≡◌, true, cond, not, ◌&&◌, List, [], ◌∷◌, ℕ, suc, ◌+◌, ◌*◌, ◌-◌, ◌<◌, ◌≤◌, pos, length, get_or, set, ltb};
 ghost use Rattle.model.specs.Inner.Lists.{All};
-ghost use Rattle.outside_row.specs.Inner.Table.{IsTable, key_of, slot_of};
+ghost use Rattle.outside_row.specs.Inner.Table.{key_of, slot_of};
 ghost use Rattle.flow.specs.Limits.{max_variables};
 ghost use Rattle.pattern_word.specs.Inner.Digits.{digits, undigits, Below};
 ghost use Rattle.pattern_word.specs.Inner.Pattern.{Width, lane, lanes, low, high, within, member, different_within};
 ghost use Rattle.pattern_word.specs.Inner.Pattern.{lane_code, codes_of, value_of, values_of, excess, recall_from, recall_of, AreCodes, store_from, store_of};
-ghost use Rattle.pattern_word.specs.Inner.Pattern.{word_of, Valid, mark_of, position_of, less_of, assign_of, unit_of};
+ghost use Rattle.pattern_word.specs.Inner.Pattern.{word_of, Valid, mark_of, less_of, assign_of, unit_of};
 ghost use Rattle.pattern_word.specs.Inner.Pattern.{least_of, greatest_of, first_trial, last_trial};
+ghost use Rattle.pattern_word.specs.Inner.Position.{position_of};
 
 use flow::Flow;
+use outside_row::Table;
 
 // LOW stands for C1; BELOW is the greatest value below it, and BELOW + w stands for C2.
 pub const LOW: u64 = 16;
 
-pub const BELOW: u64 = 15;
+const BELOW: u64 = 15;
 
 // How many numbers a lane can hold; two lanes, and three.
-pub const LANE: u64 = 65536;
+const LANE: u64 = 65536;
 
-pub const LANES_2: u64 = LANE * LANE;
+const LANES_2: u64 = LANE * LANE;
 
-pub const LANES_3: u64 = LANE * LANES_2;
+const LANES_3: u64 = LANE * LANES_2;
 
 // How many ranks lie beyond an edge, and where the last above stands, to which w is added.
-pub const RANKS: u64 = Flow::MAX_VARIABLES as u64;
+const RANKS: u64 = Flow::MAX_VARIABLES as u64;
 
-pub const LAST_ABOVE: u64 = RANKS - 1;
+const LAST_ABOVE: u64 = RANKS - 1;
 
-// n, and one more if x lies from p to q and does not come again.
-fn counted(n: u64, p: u64, q: u64, x: u64, again: bool) -> u64
-    requires { n < max_variables }
-    ensures { (result ≡ cond (within p q x && not again) (suc n) n) × (result ≤ suc n) }
-{
-    if x < p {
-        return n;
-    }
-    if q < x {
-        return n;
-    }
-    if again {
-        return n;
-    }
-    n + 1
+// What the codes of a search rest on: w says how many whole numbers there are from C1 to C2, and the table has the ranks of variables outside.
+#[derive(Drop)]
+pub struct Coding {
+    table: Table,
+    pub w: u64,
+    ghost width: { Width w },
 }
 
-fn again2(x: u64, b: u64, c: u64) -> bool
-    ensures { result ≡ member x (b ∷ c ∷ []) }
-{
-    if x == b {
-        return true;
-    }
-    x == c
-}
-
-fn again3(x: u64, b: u64, c: u64, d: u64) -> bool
-    ensures { result ≡ member x (b ∷ c ∷ d ∷ []) }
-{
-    if x == b {
-        return true;
-    }
-    again2(x, c, d)
+// The position of a value: below C1, from C1 to C2, above C2.
+#[derive(Clone, Copy, Debug, PartialEq, Eq)]
+enum Position {
+    Below,
+    Inside,
+    Above,
 }
 
 // How many different values lie from p to q.
 fn count(values: [u64; Flow::VARIABLES], p: u64, q: u64) -> u64
     ensures { (result ≡ different_within p q values) × (result ≤ max_variables) }
 {
-    let a = values[0];
-    let b = values[1];
-    let c = values[2];
-    let d = values[3];
-    let n1 = counted(0, p, q, d, false);
-    let n2 = counted(n1, p, q, c, c == d);
-    let n3 = counted(n2, p, q, b, again2(b, c, d));
-    counted(n3, p, q, a, again3(a, b, c, d))
+    let mut n = 0;
+    for i in (0..Flow::VARIABLES).rev() {
+        let x = values[i];
+        if p <= x && x <= q && !values[i + 1..].contains(&x) {
+            n += 1;
+        }
+    }
+    n
 }
 
-// The code of x among the values.
-fn code(values: [u64; Flow::VARIABLES], x: u64, w: u64) -> u64
-    requires { Width w }
-    ensures { result ≡ lane_code w values x }
-{
-    let high = BELOW + w;
-    if high < x {
-        return w + count(values, high + 1, x) - 1;
-    }
-    if x < LOW {
-        return w + LAST_ABOVE + count(values, x, BELOW);
-    }
-    x - LOW
-}
-
-// The codes of four values.
-fn codes(values: [u64; Flow::VARIABLES], w: u64) -> [u64; Flow::VARIABLES]
-    requires { Width w }
-    ensures { result ≡ codes_of w values }
-{
-    let a = code(values, values[0], w);
-    let b = code(values, values[1], w);
-    let c = code(values, values[2], w);
-    let d = code(values, values[3], w);
-    [a, b, c, d]
-}
-
-// The value that a trial uses for a code.
-pub fn value(c: u64, w: u64) -> u64
-    requires c_bound { c < 4294967296 }
-    requires width { Width w }
-    ensures { result ≡ value_of w c }
-{
-    if c < w {
-        return LOW + c;
-    }
-    if c < w + RANKS {
-        return BELOW + w + 2 * (c + 1 - w);
-    }
-    let k = 2 * (c + 1 - (w + RANKS));
-    if LOW < k {
-        return 0;
-    }
-    LOW - k
-}
-
-fn values(c: [u64; Flow::VARIABLES], w: u64) -> [u64; Flow::VARIABLES]
-    requires below { Below lane c }
-    requires width { Width w }
-    ensures { result ≡ values_of w c }
-{
-    let x = value(c[0], w);
-    let y = value(c[1], w);
-    let z = value(c[2], w);
-    let u = value(c[3], w);
-    [x, y, z, u]
-}
-
+// The word of four digits.
+// Kept: four digits are written out here and in `unpack`: a loop of quotients is no plainer.
 pub fn pack(c: [u64; Flow::VARIABLES]) -> u64
     requires { Below lane c }
     ensures { result ≡ undigits lane c }
@@ -148,6 +74,7 @@ pub fn pack(c: [u64; Flow::VARIABLES]) -> u64
     c[0] + LANE * (c[1] + LANE * (c[2] + LANE * c[3]))
 }
 
+#[tactic(auto, unfolding(crate::specs::Inner::Digits::digits))]
 fn unpack(pattern: u64) -> [u64; Flow::VARIABLES]
     ensures { result ≡ digits lane max_variables pattern }
 {
@@ -157,327 +84,36 @@ fn unpack(pattern: u64) -> [u64; Flow::VARIABLES]
     [pattern % LANE, x % LANE, y % LANE, z % LANE]
 }
 
-// The first number if d is the digit or the code of a variable inside, else the second.
-fn select(d: u64, w: u64, inside: u64, outside: u64) -> u64
-    ensures { result ≡ cond (ltb d w) inside outside }
-{
-    if d < w {
-        return inside;
-    }
-    outside
-}
-
-// n, and one more if d is the digit of a variable outside.
-fn more(d: u64, w: u64, n: u64) -> u64
-    requires { n < max_variables }
-    ensures { (result ≡ cond (ltb d w) n (suc n)) × (result ≤ suc n) }
-{
-    if d < w {
-        return n;
-    }
-    n + 1
-}
-
-// How many of the digits are those of variables outside.
-fn outs(d: [u64; Flow::VARIABLES], w: u64) -> u64
-    ensures { (result ≡ length (excess w d)) × (result ≤ max_variables) }
-{
-    let a = more(d[3], w, 0);
-    let b = more(d[2], w, a);
-    let c = more(d[1], w, b);
-    more(d[0], w, c)
-}
-
-// What the digit d exceeds w by, i if it is that of a variable inside.
-fn excess_of(d: u64, w: u64, i: u64) -> u64
-    ensures { result ≡ cond (ltb d w) i (d - w) }
-{
-    if d < w {
-        return i;
-    }
-    d - w
-}
-
-// The index that the first digit of a variable outside holds.
-fn index(d: [u64; Flow::VARIABLES], w: u64) -> u64
-    ensures { result ≡ get_or (excess w d) 0 0 }
-{
-    let a = excess_of(d[3], w, 0);
-    let b = excess_of(d[2], w, a);
-    let c = excess_of(d[1], w, b);
-    excess_of(d[0], w, c)
-}
-
-// The codes that the digits store, if the ranks of those outside have the key k.
-fn recall_from(d: [u64; Flow::VARIABLES], w: u64, k: u64) -> [u64; Flow::VARIABLES]
-    requires { Width w }
-    ensures { (l : List ℕ) → All (λ b. b < 8) l → k ≡ key_of l → result ≡ recall_from w d l }
-{
-    let l = select(d[0], w, k, k / 8);
-    let m = select(d[1], w, l, l / 8);
-    let n = select(d[2], w, m, m / 8);
-    let x = select(d[0], w, d[0], w + k % 8);
-    let y = select(d[1], w, d[1], w + l % 8);
-    let z = select(d[2], w, d[2], w + m % 8);
-    let u = select(d[3], w, d[3], w + n % 8);
-    [x, y, z, u]
-}
-
-// The codes that the digits store.
-fn recall(table: &[u16], d: [u64; Flow::VARIABLES], w: u64) -> [u64; Flow::VARIABLES]
-    requires table { IsTable table.now }
-    requires width { Width w }
-    ensures { result ≡ recall_of w d }
-{
-    let v = outs(d, w);
-    if v == 0 {
-        return d;
-    }
-    let n = index(d, w);
-    let k = outside_row::key_at(table, v as usize, n);
-    recall_from(d, w, k)
-}
-
-// The slot of the rank of the code c, if it is outside, and of the ranks whose slot is s.
-fn slot(c: u64, w: u64, s: u64) -> u64
-    requires { (c < w + 8) × (s < 4681) }
-    ensures { (result ≡ cond (ltb c w) s (suc (c - w + 8 * s))) × (result ≤ 8 * s + 8) }
-{
-    if c < w {
-        return s;
-    }
-    c - w + 8 * s + 1
-}
-
-// The slot of the ranks of the codes outside.
-fn slots(c: [u64; Flow::VARIABLES], w: u64) -> u64
-    requires { Below (w + 8) c }
-    ensures { (result ≡ slot_of (excess w c)) × (result < 4681) }
-{
-    let a = slot(c[3], w, 0);
-    let b = slot(c[2], w, a);
-    let d = slot(c[1], w, b);
-    slot(c[0], w, d)
-}
-
-// The digits of the codes; n is that of the first variable outside.
-fn store_from(c: [u64; Flow::VARIABLES], w: u64, n: u64) -> [u64; Flow::VARIABLES]
-    ensures { result ≡ store_from w n c }
-{
-    let l = select(c[0], w, n, w);
-    let m = select(c[1], w, l, w);
-    let k = select(c[2], w, m, w);
-    let x = select(c[0], w, c[0], n);
-    let y = select(c[1], w, c[1], l);
-    let z = select(c[2], w, c[2], m);
-    let u = select(c[3], w, c[3], k);
-    [x, y, z, u]
-}
-
-// The digits that store the codes of values.
-fn store(table: &[u16], c: [u64; Flow::VARIABLES], w: u64) -> [u64; Flow::VARIABLES]
-    requires table { IsTable table.now }
-    requires width { Width w }
-    requires are_codes { AreCodes w c }
-    ensures { result ≡ store_of w c }
-{
-    let s = slots(c, w);
-    if s == 0 {
-        return c;
-    }
-    let n = outside_row::index_at(table, s);
-    store_from(c, w, w + n)
-}
-
-// The pattern word of values.
-fn word(table: &[u16], values: [u64; Flow::VARIABLES], w: u64) -> u64
-    requires table { IsTable table.now }
-    requires width { Width w }
-    ensures { result ≡ word_of w values }
-{
-    let c = codes(values, w);
-    let d = store(table, c, w);
-    pack(d)
-}
-
-// The codes of a pattern word.
-pub fn lanes(table: &[u16], pattern: u64, w: u64) -> [u64; Flow::VARIABLES]
-    requires table { IsTable table.now }
-    requires width { Width w }
-    ensures { (result ≡ lanes w pattern) × Below lane result }
-{
-    let d = unpack(pattern);
-    recall(table, d, w)
-}
-
-// The values that a trial uses for the codes of a pattern word.
-pub fn held(table: &[u16], pattern: u64, w: u64) -> [u64; Flow::VARIABLES]
-    requires table { IsTable table.now }
-    requires width { Width w }
-    ensures { result ≡ values_of w (lanes w pattern) }
-{
-    let c = lanes(table, pattern, w);
-    values(c, w)
-}
-
-// The values with y for variable v.
-fn with_value(values: [u64; Flow::VARIABLES], v: u8, y: u64) -> [u64; Flow::VARIABLES]
-    ensures { result ≡ set values v y }
-{
-    if Flow::MAX_VARIABLES <= v {
-        return values;
-    }
-    let mut s = values;
-    s[v as usize] = y;
-    s
-}
-
-// 1 in lane v.
-fn unit(v: u8) -> u64
-    requires { v < max_variables }
-    ensures { result ≡ unit_of v }
-{
-    if v == 0 {
-        return 1;
-    }
-    if v == 1 {
-        return LANE;
-    }
-    if v == 2 {
-        return LANES_2;
-    }
-    LANES_3
-}
-
-// Whether v has a lane and y lies from C1 to C2.
-fn is_inside(v: u8, w: u64, y: u64) -> bool
-    requires { Width w }
-    ensures value { result ≡ (ltb v max_variables && within low (high w) y) }
-    ensures v_lt_max_variables { result ≡ true → (v < max_variables) × (low ≤ y) × (y ≤ high w) }
-{
-    if Flow::MAX_VARIABLES <= v {
-        return false;
-    }
-    if y < LOW {
-        return false;
-    }
-    y <= BELOW + w
-}
-
 // The digit of variable v.
 fn digit(pattern: u64, v: u8) -> u64
     requires { v < max_variables }
     ensures { result ≡ get_or (digits lane max_variables pattern) v 0 }
 {
-    let d = unpack(pattern);
-    d[v as usize]
+    unpack(pattern)[v as usize]
 }
 
-// The pattern when variable v, whose digit d is a value, gets the value y from C1 to C2: another digit.
-fn shifted(pattern: u64, w: u64, v: u8, d: u64, y: u64) -> u64
-    requires width { Width w }
-    requires valid { Valid w pattern }
-    requires v_lt_max_variables { (v < max_variables) × (low ≤ y) × (y ≤ high w) }
-    requires d_value { (d ≡ get_or (digits lane max_variables pattern) v 0) × (d < w) }
-    ensures { result ≡ assign_of w pattern v y }
+// 1 in lane v.
+#[tactic(auto, unfolding(crate::specs::Inner::Pattern::unit_of))]
+fn unit(v: u8) -> u64
+    requires { v < max_variables }
+    ensures { result ≡ unit_of v }
 {
-    let u = unit(v);
-    pattern - d * u + (y - LOW) * u
-}
-
-// The pattern when variable v gets the value y.
-pub fn assign(table: &[u16], pattern: u64, w: u64, v: u8, y: u64) -> u64
-    requires table { IsTable table.now }
-    requires width { Width w }
-    requires valid { Valid w pattern }
-    ensures { result ≡ assign_of w pattern v y }
-{
-    if is_inside(v, w, y) {
-        let d = digit(pattern, v);
-        if d < w {
-            return shifted(pattern, w, v, d, y);
-        }
-    }
-    let x = held(table, pattern, w);
-    let s = with_value(x, v, y);
-    word(table, s, w)
-}
-
-// The position number of the value of code c: 0 below C1, 1 from C1 to C2, 2 above C2.
-fn position(c: u64, w: u64) -> u64
-    requires { Width w }
-    ensures { result ≡ position_of (mark_of (pos 0) w c) }
-{
-    if c < w {
-        return 1;
-    }
-    if c < w + RANKS {
-        return 2;
-    }
-    0
-}
-
-// Whether the value of code c is less than that of code d: nine cases, by the positions of c and d. Of codes of one position the greater
-// has the greater value or rank.
-pub fn less(c: u64, d: u64, w: u64) -> bool
-    requires { Width w }
-    ensures { result ≡ less_of w c d }
-{
-    let case = 3 * position(c, w) + position(d, w);
-    match case {
-        0 => d < c, // below and below: the greater rank is the farther below
-        1 => true, // below and inside
-        2 => true, // below and above
-        3 => false, // inside and below
-        4 => c < d, // inside and inside
-        5 => true, // inside and above
-        6 => false, // above and below
-        7 => false, // above and inside
-        8 => c < d, // above and above
-        _ => false, // no further case
+    match v {
+        0 => 1,
+        1 => LANE,
+        2 => LANES_2,
+        _ => LANES_3,
     }
 }
 
-// The member by the record y of the fan over v; `first` is the first member, in which v is C1, and `values` are those of its codes. If y lies
-// from C1 to C2 it is a sum.
-pub fn fan_at(
-    table: &[u16],
-    first: u64,
-    values: [u64; Flow::VARIABLES],
-    w: u64,
-    v: u8,
-    y: u64,
-) -> u64
-    requires table { IsTable table.now }
-    requires width { Width w }
-    requires first_value { first ≡ assign_of w first v low }
-    requires values_value { values ≡ values_of w (lanes w first) }
-    ensures { result ≡ assign_of w first v y }
+// The values with y for variable v.
+fn with_value(mut values: [u64; Flow::VARIABLES], v: u8, y: u64) -> [u64; Flow::VARIABLES]
+    ensures { result ≡ set values v y }
 {
-    if is_inside(v, w, y) {
-        let k = y - LOW;
-        return first + k * unit(v);
+    if v < Flow::MAX_VARIABLES {
+        values[v as usize] = y;
     }
-    let s = with_value(values, v, y);
-    word(table, s, w)
-}
-
-fn lesser(x: u64, y: u64) -> u64
-    ensures { result ≡ min x y }
-{
-    if x < y {
-        return x;
-    }
-    y
-}
-
-fn greater(x: u64, y: u64) -> u64
-    ensures { result ≡ max x y }
-{
-    if x < y {
-        return y;
-    }
-    x
+    values
 }
 
 // The first record that a fan is tried with: one less than the least of C1 and the values of its first member.
@@ -485,20 +121,276 @@ pub fn first_trial(values: [u64; Flow::VARIABLES]) -> u64
     requires { 0 < least_of low values }
     ensures { result ≡ first_trial values }
 {
-    let a = lesser(values[3], LOW);
-    let b = lesser(values[2], a);
-    let c = lesser(values[1], b);
-    lesser(values[0], c) - 1
+    let mut least = LOW;
+    for x in values {
+        least = least.min(x);
+    }
+    least - 1
 }
 
-// The last record that a fan is tried with: one more than the greatest of C2 and the values of its first member.
-pub fn last_trial(values: [u64; Flow::VARIABLES], w: u64) -> u64
-    requires width { Width w }
-    requires values_bound { greatest_of (high w) values ≤ w + 23 }
-    ensures { result ≡ last_trial w values }
-{
-    let a = greater(values[3], BELOW + w);
-    let b = greater(values[2], a);
-    let c = greater(values[1], b);
-    greater(values[0], c) + 1
+impl Coding {
+    pub fn new(w: u64) -> Self
+        requires { Width w }
+        ensures { result.w ≡ w }
+    {
+        Coding {
+            table: Table::new(),
+            w,
+        }
+    }
+
+    // The code of x among the values.
+    #[tactic(auto, unfolding(crate::specs::Inner::Pattern::lane_code))]
+    fn code(&self, values: [u64; Flow::VARIABLES], x: u64) -> u64
+        ensures { result ≡ lane_code self.now.w values x }
+    {
+        let high = BELOW + self.w;
+        if high < x {
+            self.w + count(values, high + 1, x) - 1
+        } else if x < LOW {
+            self.w + LAST_ABOVE + count(values, x, BELOW)
+        } else {
+            x - LOW
+        }
+    }
+
+    // The codes of four values.
+    fn codes(&self, values: [u64; Flow::VARIABLES]) -> [u64; Flow::VARIABLES]
+        ensures { result ≡ codes_of self.now.w values }
+    {
+        let mut codes = values;
+        for x in codes.iter_mut() {
+            *x = self.code(values, *x);
+        }
+        codes
+    }
+
+    // The value that a trial uses for a code.
+    #[tactic(auto, unfolding(crate::specs::Inner::Pattern::value_of))]
+    pub fn value(&self, c: u64) -> u64
+        requires { c < 4294967296 }
+        ensures { result ≡ value_of self.now.w c }
+    {
+        if c < self.w {
+            LOW + c
+        } else if c < self.w + RANKS {
+            BELOW + self.w + 2 * (c + 1 - self.w)
+        } else {
+            LOW.saturating_sub(2 * (c + 1 - (self.w + RANKS)))
+        }
+    }
+
+    fn values(&self, mut c: [u64; Flow::VARIABLES]) -> [u64; Flow::VARIABLES]
+        requires { Below lane c }
+        ensures { result ≡ values_of self.now.w c }
+    {
+        for x in c.iter_mut() {
+            *x = self.value(*x);
+        }
+        c
+    }
+
+    // The codes that the digits store.
+    fn recall(&self, d: [u64; Flow::VARIABLES]) -> [u64; Flow::VARIABLES]
+        ensures { result ≡ recall_of self.now.w d }
+    {
+        let v = self.outs(d);
+        if v == 0 {
+            return d;
+        }
+        self.recall_from(d, self.table.key_at(v as usize, self.index(d)))
+    }
+
+    // How many of the digits are those of variables outside.
+    fn outs(&self, d: [u64; Flow::VARIABLES]) -> u64
+        ensures { (result ≡ length (excess self.now.w d)) × (result ≤ max_variables) }
+    {
+        let mut n = 0;
+        for x in d {
+            let is_outside = self.w <= x;
+            if is_outside {
+                n += 1;
+            }
+        }
+        n
+    }
+
+    // The index that the first digit of a variable outside holds.
+    fn index(&self, d: [u64; Flow::VARIABLES]) -> u64
+        ensures { result ≡ get_or (excess self.now.w d) 0 0 }
+    {
+        for x in d {
+            if self.w <= x {
+                return x - self.w;
+            }
+        }
+        0
+    }
+
+    // The codes that the digits store, if the ranks of those outside have the key k.
+    fn recall_from(&self, mut d: [u64; Flow::VARIABLES], mut k: u64) -> [u64; Flow::VARIABLES]
+        ensures { (l : List ℕ) → All (λ b. b < 8) l → k ≡ key_of l → result ≡ recall_from self.now.w d l }
+    {
+        for x in d.iter_mut() {
+            if self.w <= *x {
+                *x = self.w + k % 8;
+                k /= 8;
+            }
+        }
+        d
+    }
+
+    // The digits that store the codes of values.
+    fn store(&self, c: [u64; Flow::VARIABLES]) -> [u64; Flow::VARIABLES]
+        requires { AreCodes self.now.w c }
+        ensures { result ≡ store_of self.now.w c }
+    {
+        let s = self.slots(c);
+        if s == 0 {
+            return c;
+        }
+        self.store_from(c, self.w + self.table.index_at(s))
+    }
+
+    // The slot of the ranks of the codes outside.
+    fn slots(&self, c: [u64; Flow::VARIABLES]) -> u64
+        requires { Below (self.now.w + 8) c }
+        ensures { (result ≡ slot_of (excess self.now.w c)) × (result < 4681) }
+    {
+        let mut s = 0;
+        for i in (0..Flow::VARIABLES).rev() {
+            if self.w <= c[i] {
+                s = c[i] - self.w + 8 * s + 1;
+            }
+        }
+        s
+    }
+
+    // The digits of the codes; n is that of the first variable outside.
+    fn store_from(&self, mut c: [u64; Flow::VARIABLES], mut n: u64) -> [u64; Flow::VARIABLES]
+        ensures { result ≡ store_from self.now.w n c }
+    {
+        for x in c.iter_mut() {
+            if self.w <= *x {
+                *x = n;
+                n = self.w;
+            }
+        }
+        c
+    }
+
+    // The pattern word of values.
+    #[tactic(auto, unfolding(crate::specs::Inner::Pattern::word_of))]
+    fn word(&self, values: [u64; Flow::VARIABLES]) -> u64
+        ensures { result ≡ word_of self.now.w values }
+    {
+        pack(self.store(self.codes(values)))
+    }
+
+    // The codes of a pattern word.
+    pub fn lanes(&self, pattern: u64) -> [u64; Flow::VARIABLES]
+        ensures { (result ≡ lanes self.now.w pattern) × Below lane result }
+    {
+        self.recall(unpack(pattern))
+    }
+
+    // The values that a trial uses for the codes of a pattern word.
+    pub fn held(&self, pattern: u64) -> [u64; Flow::VARIABLES]
+        ensures { result ≡ values_of self.now.w (lanes self.now.w pattern) }
+    {
+        self.values(self.lanes(pattern))
+    }
+
+    // Whether v has a lane and y lies from C1 to C2.
+    fn is_inside(&self, v: u8, y: u64) -> bool
+        ensures value { result ≡ (ltb v max_variables && within low (high self.now.w) y) }
+        ensures v_lt_max_variables { result ≡ true → (v < max_variables) × (low ≤ y) × (y ≤ high self.now.w) }
+    {
+        v < Flow::MAX_VARIABLES && LOW <= y && y <= BELOW + self.w
+    }
+
+    // The pattern when variable v, whose digit d is a value, gets the value y from C1 to C2: another digit.
+    fn shifted(&self, pattern: u64, v: u8, d: u64, y: u64) -> u64
+        requires valid { Valid self.now.w pattern }
+        requires v_lt_max_variables { (v < max_variables) × (low ≤ y) × (y ≤ high self.now.w) }
+        requires d_value { (d ≡ get_or (digits lane max_variables pattern) v 0) × (d < self.now.w) }
+        ensures { result ≡ assign_of self.now.w pattern v y }
+    {
+        let u = unit(v);
+        pattern - d * u + (y - LOW) * u
+    }
+
+    // The pattern when variable v gets the value y.
+    #[tactic(auto, unfolding(crate::specs::Inner::Pattern::assign_of))]
+    pub fn assign(&self, pattern: u64, v: u8, y: u64) -> u64
+        requires { Valid self.now.w pattern }
+        ensures { result ≡ assign_of self.now.w pattern v y }
+    {
+        if self.is_inside(v, y) {
+            let d = digit(pattern, v);
+            if d < self.w {
+                return self.shifted(pattern, v, d, y);
+            }
+        }
+        self.word(with_value(self.held(pattern), v, y))
+    }
+
+    // The position of the value of code c.
+    #[tactic(auto, unfolding(crate::specs::Inner::Position::position_of, crate::specs::Inner::Pattern::mark_of))]
+    fn position(&self, c: u64) -> Position
+        ensures { result ≡ position_of (mark_of (pos 0) self.now.w c) }
+    {
+        if c < self.w {
+            Position::Inside
+        } else if c < self.w + RANKS {
+            Position::Above
+        } else {
+            Position::Below
+        }
+    }
+
+    // Whether the value of code c is less than that of code d: nine cases, by the positions of c and d. Of codes of one position the greater
+    // has the greater value or rank.
+    pub fn less(&self, c: u64, d: u64) -> bool
+        ensures { result ≡ less_of self.now.w c d }
+    {
+        match (self.position(c), self.position(d)) {
+            (Position::Below, Position::Below) => d < c, // the greater rank is the farther below
+            (Position::Below, Position::Inside) => true,
+            (Position::Below, Position::Above) => true,
+            (Position::Inside, Position::Below) => false,
+            (Position::Inside, Position::Inside) => c < d,
+            (Position::Inside, Position::Above) => true,
+            (Position::Above, Position::Below) => false,
+            (Position::Above, Position::Inside) => false,
+            (Position::Above, Position::Above) => c < d,
+        }
+    }
+
+    // The member by the record y of the fan over v; `first` is the first member, in which v is C1, and `values` are those of its codes. If y
+    // lies from C1 to C2 it is a sum.
+    #[tactic(auto, unfolding(crate::specs::Inner::Pattern::assign_of))]
+    pub fn fan_at(&self, first: u64, values: [u64; Flow::VARIABLES], v: u8, y: u64) -> u64
+        requires first_value { first ≡ assign_of self.now.w first v low }
+        requires values_value { values ≡ values_of self.now.w (lanes self.now.w first) }
+        ensures { result ≡ assign_of self.now.w first v y }
+    {
+        if self.is_inside(v, y) {
+            first + (y - LOW) * unit(v)
+        } else {
+            self.word(with_value(values, v, y))
+        }
+    }
+
+    // The last record that a fan is tried with: one more than the greatest of C2 and the values of its first member.
+    pub fn last_trial(&self, values: [u64; Flow::VARIABLES]) -> u64
+        requires { greatest_of (high self.now.w) values ≤ self.now.w + 23 }
+        ensures { result ≡ last_trial self.now.w values }
+    {
+        let mut greatest = BELOW + self.w;
+        for x in values {
+            greatest = greatest.max(x);
+        }
+        greatest + 1
+    }
 }

@@ -1,4 +1,4 @@
-pub mod TargetLaws
-pub mod HeadLaws
 pub mod LineLaws
+pub mod HeadLaws
+pub mod TargetLaws
 pub mod FlowLaws

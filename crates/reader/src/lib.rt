@@ -6,89 +6,51 @@
 mod line; // line.rt: one instruction line
 mod lines; // lines.rt: line 1, the instruction lines, the targets
 
-ghost use Rattle.std.specs.Prelude.{◌≡◌, ◌≤◌, length, drop};
+ghost use Rattle.std.specs.Prelude.{◌≡◌, ◌≤◌, length};
 ghost use Rattle.text.specs.Split.{lines};
-ghost use Rattle.flow.specs.Limits.{max_instructions};
-ghost use Rattle.flow.specs.Read.{read_rest, read_bytes, read_flow, fault};
+ghost use Rattle.flow.specs.Read.{read_rest, read_bytes, read_flow};
 ghost use Rattle.flow.specs.Code.{reading_of};
 ghost use Rattle.flow.specs.Inner.Reader.{HeadFits};
-ghost use Rattle.reader.specs.Inner.Lines.{finished};
 
-use flow::{Answer, Flow, Head, Headed, Instruction, Reading, Refusal};
-use lines::Targets;
+use flow::{Flow, Head, Refusal};
 
 // Reads a flow text.
-pub fn read(text: &[u8]) -> Reading
+pub fn read(text: &[u8]) -> Result<Flow, Refusal>
     ensures { result ≡ reading_of (read_flow text.now) }
 {
     let empty = text.len() == 0;
     if empty {
-        return Reading {
-            answer: Answer::Legal,
-            flow: Flow::only_stop(),
-        };
+        return Ok(Flow::only_stop());
     }
     read_bytes(text)
 }
 
 // A text with bytes in it.
-fn read_bytes(text: &[u8]) -> Reading
+fn read_bytes(text: &[u8]) -> Result<Flow, Refusal>
     requires { 1 ≤ length text.now }
     ensures { result ≡ reading_of (read_bytes text.now) }
 {
     let long = Flow::MAX_BYTES < text.len();
     if long {
-        return refused(Refusal::TooLong);
+        return Err(Refusal::TooLong);
     }
-    if text[text.len() - 1] != 10 {
-        return refused(Refusal::NoLastEnd);
+    if text[text.len() - 1] != b'\n' {
+        return Err(Refusal::NoLastEnd);
     }
-    let end = text::end_of(text, 0, 10);
-    let headed = lines::read_head(&text[..end]);
-    match headed {
-        Headed::Heads(head) => read_rest(text, end + 1, head),
-        Headed::Fault(r) => refused(r),
-    }
-}
-
-// The answer for a refusal.
-fn refused(r: Refusal) -> Reading
-    ensures { result ≡ reading_of (fault r) }
-{
-    Reading {
-        answer: Answer::Refused(r),
-        flow: Flow::none(),
-    }
+    let end = text::end_of(text, 0, b'\n');
+    let head = lines::read_head(&text[..end])?;
+    read_rest(&text[end + 1..], head)
 }
 
 // The lines after line 1, and their targets.
-fn read_rest(text: &[u8], from: usize, head: Head) -> Reading
-    requires { (from ≤ length text.now) × HeadFits head }
-    ensures { result ≡ reading_of (read_rest head (lines (drop from text.now))) }
+fn read_rest(rest: &[u8], head: Head) -> Result<Flow, Refusal>
+    requires { HeadFits head }
+    ensures { result ≡ reading_of (read_rest head (lines rest.now)) }
 {
-    let read = lines::read_lines(text, from, head);
-    let answer = read.reply;
-    let rows = read.rows;
-    match answer {
-        Answer::Refused(r) => refused(r),
-        Answer::Legal => finish(head, read.count, rows),
+    let flow = lines::read_lines(rest, head)?;
+    if flow.count == 0 {
+        return Err(Refusal::NoInstruction);
     }
-}
-
-// The flow of lines that are in order, if there are any and their targets are among them.
-fn finish(head: Head, count: usize, rows: [Instruction; Flow::MAX_INSTRUCTIONS]) -> Reading
-    requires { count ≤ max_instructions }
-    ensures { (result ≡ finished head count rows) × (length rows ≡ max_instructions) }
-{
-    if count == 0 {
-        return refused(Refusal::NoInstruction);
-    }
-    let targets = lines::check_targets(rows, count);
-    match targets {
-        Targets::Lost(line) => refused(Refusal::NoSuchTarget(line)),
-        Targets::Named => Reading {
-            answer: Answer::Legal,
-            flow: Flow::new(head, count, rows),
-        },
-    }
+    lines::check_targets(&flow.instructions[..flow.count])?;
+    Ok(flow)
 }

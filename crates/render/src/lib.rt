@@ -2,7 +2,7 @@
 // from a place on, and gives the place behind them.
 #![tactic(auto)]
 
-ghost use Rattle.std.specs.Prelude.{◌≡◌, [], ◌∷◌, ◌++◌, ◌+◌, ◌*◌, ◌≤◌, length};
+ghost use Rattle.std.specs.Prelude.{◌≡◌, [], ◌∷◌, ◌++◌, ◌+◌, ◌*◌, ◌≤◌, length, Some, Ok};
 ghost use Rattle.text.specs.Write.{decimal, ended};
 ghost use Rattle.flow.specs.Limits.{max_instructions};
 ghost use Rattle.flow.specs.Read.{read_flow};
@@ -14,7 +14,7 @@ ghost use Rattle.render.specs.Inner.Writing.{line_bytes, Put};
 
 use cells::Cell;
 use flow::{Flow, Refusal};
-use tape_maker::{BoundAnswer, ReportAnswer, ReportEnd};
+use tape_maker::ReportAnswer;
 
 // No report has more bytes.
 pub const REPORT_BYTES: usize = 4096;
@@ -29,16 +29,14 @@ pub type Line = [u8; LINE_BYTES];
 // The cells that a report is made with.
 pub const CELLS: usize = 4096;
 
+// Kept: `out` and `at` are parameters; a struct that holds the `&mut [u8]` needs one clause more at each function, that it still holds the same row.
 fn copy(out: &mut [u8], at: usize, bytes: &[u8]) -> usize
     requires { at + length bytes.now ≤ length out.old }
     ensures { Put bytes.now out.old at out.new result }
 {
-    let mut i = 0;
-    while i < bytes.len() {
-        out[at + i] = bytes[i];
-        i += 1;
-    }
-    at + i
+    let end = at + bytes.len();
+    out[at..end].copy_from_slice(bytes);
+    end
 }
 
 fn number(out: &mut [u8], at: usize, n: u64) -> usize
@@ -94,21 +92,13 @@ fn exit_lines(out: &mut [u8], at: usize, i: usize, two: bool, p: u32, m: u32) ->
 }
 
 // The lines of all exits.
-fn all_exits(
-    out: &mut [u8],
-    at: usize,
-    two: [bool; Flow::MAX_INSTRUCTIONS],
-    p: [u32; Flow::MAX_INSTRUCTIONS],
-    m: [u32; Flow::MAX_INSTRUCTIONS],
-) -> usize
+fn all_exits(out: &mut [u8], at: usize, r: &ReportAnswer) -> usize
     requires { at + 32 * max_instructions + 64 ≤ length out.old }
-    ensures { Put (ended (exit_lines_from 0 max_instructions two p m)) out.old at out.new result × (result ≤ at + 32 * max_instructions) }
+    ensures { Put (ended (exit_lines_from 0 max_instructions r.now.two r.now.p r.now.m)) out.old at out.new result × (result ≤ at + 32 * max_instructions) }
 {
     let mut end = at;
-    let mut i = 0;
-    while i < Flow::MAX_INSTRUCTIONS {
-        end = exit_lines(out, end, i + 1, two[i], p[i], m[i]);
-        i += 1;
+    for i in 0..Flow::MAX_INSTRUCTIONS {
+        end = exit_lines(out, end, i + 1, r.two[i], r.p[i], r.m[i]);
     }
     end
 }
@@ -133,25 +123,21 @@ fn refusal_line(out: &mut [u8], why: Refusal) -> usize
 }
 
 // Writes the lines of a report into the first cells of a row, and says how many bytes they have.
-pub fn report_text(r: ReportAnswer, out: &mut Row) -> usize
+pub fn report_text(r: Result<ReportAnswer, Refusal>, out: &mut Row) -> usize
     ensures value { (result ≡ length (report_text r)) × (out.new ≡ written (report_text r) out.old) }
     ensures upper_bound { result ≤ length out.new }
 {
-    let end = r.end;
-    match end {
-        ReportEnd::Given => {
+    match r {
+        Ok(report) => {
             let at = word_line(
                 out,
                 b"report",
-                r.instructions as u64,
-                r.configurations as u64,
+                report.instructions as u64,
+                report.configurations as u64,
             );
-            let two = r.two;
-            let p = r.p;
-            let m = r.m;
-            all_exits(out, at, two, p, m)
+            all_exits(out, at, &report)
         }
-        ReportEnd::Refused(why) => refusal_line(out, why),
+        Err(why) => refusal_line(out, why),
     }
 }
 
@@ -168,7 +154,7 @@ pub fn report_of(text: &[u8], out: &mut Row) -> usize
 // The line of a bound, at the row's start.
 fn bound_line(out: &mut [u8], n: u64) -> usize
     requires { line_bytes ≤ length out.old }
-    ensures { Put (bound_line (BoundAnswer.AtMost n) ++ (10 ∷ [])) out.old 0 out.new result × (result ≤ line_bytes) }
+    ensures { Put (bound_line (Ok (Some n)) ++ (10 ∷ [])) out.old 0 out.new result × (result ≤ line_bytes) }
 {
     let x = copy(out, 0, b"bound");
     let y = field(out, x, n);
@@ -176,14 +162,14 @@ fn bound_line(out: &mut [u8], n: u64) -> usize
 }
 
 // Writes the line of a bound into the first cells of a row, and says how many bytes it has.
-pub fn bound_text(r: BoundAnswer, out: &mut Line) -> usize
+pub fn bound_text(r: Result<Option<usize>, Refusal>, out: &mut Line) -> usize
     ensures value { (result ≡ length (bound_text r)) × (out.new ≡ written (bound_text r) out.old) }
     ensures upper_bound { result ≤ length out.new }
 {
     match r {
-        BoundAnswer::AtMost(n) => bound_line(out, n as u64),
-        BoundAnswer::Over => copy(out, 0, b"bound,over\n"),
-        BoundAnswer::Refused(why) => refusal_line(out, why),
+        Ok(Some(n)) => bound_line(out, n as u64),
+        Ok(None) => copy(out, 0, b"bound,over\n"),
+        Err(why) => refusal_line(out, why),
     }
 }
 
@@ -193,6 +179,5 @@ pub fn bound_of(text: &[u8], out: &mut Line) -> usize
         × (out.new ≡ written (bound_text (bound_in (read_flow text.now))) out.old) }
     ensures upper_bound { result ≤ length out.new }
 {
-    let r = tape_maker::bound(text);
-    bound_text(r, out)
+    bound_text(tape_maker::bound(text), out)
 }

@@ -23,7 +23,7 @@ use Rattle.configuration.specs.Inner.Fits.{FlowFits}
 use Rattle.cells.specs.Cells.{most_cells}
 use Rattle.cells.specs.Inner.Entries.{Entries, distance_of}
 use Rattle.cells.specs.Inner.Way.{Traced}
-use Rattle.cells.specs.declared.Found.TheVariants.{At}
+use Rattle.std.specs.Prelude.{Some}
 use Rattle.search_table.specs.Inner.Table.{words_at, Complete}
 use Rattle.search_table.specs.Inner.Passes.{Prepared, Walkable, takes_at, FirstIs}
 use Rattle.search_table.specs.Inner.Way.{words_on}
@@ -50,7 +50,7 @@ module _ {lo hi : ℤ} {w : ℕ} {flow : Flow} (f : FlowFits lo hi w flow) {e : 
 
   -- the entry that `nearest` finds for the exit of instruction i
   pub found_ends : (i : ℕ) (exit : Bool) (op : Op) → op ≡ op_of lo (instruction flow i)
-      → FirstIs (takes_at w e.places e.patterns op i (exit_if exit)) n (At at)
+      → FirstIs (takes_at w e.places e.patterns op i (exit_if exit)) n (Some at)
       → Ends (course e.places e.patterns e.distances path last ops w lo hi) flow exit
       × (end_of (course e.places e.patterns e.distances path last ops w lo hi) ≡ i)
   found_ends i exit op is h =

@@ -1,18 +1,12 @@
--- A sample in the record row, an answer without one, and a row that is too short (document 01, "Distances and configurations" and "Where a
+-- A sample in the record row, and a row that is too short (document 01, "Distances and configurations" and "Where a
 -- request is turned back").
-use Rattle.std.specs.Prelude.{◌≡◌, List, ℕ, ◌≤◌, ◌<◌, ℤ, length, get_or, take, drop, replicate}
+use Rattle.std.specs.Prelude.{◌≡◌, List, ℕ, ◌≤◌, ◌<◌, ℤ, length, get_or, take, drop}
 use Rattle.model.specs.Language.{Flow}
 use Rattle.model.specs.Machine.{Exit}
 use Rattle.model.specs.Distance.{Distance}
 use Rattle.model.specs.Sample.{Sample}
 use Rattle.model.specs.Tapes.{tapes_in, total}
 use Rattle.flow.specs.Limits.{max_tapes}
-use Rattle.sample.specs.declared.SampleEnd.{SampleEnd}
-use Rattle.sample.specs.declared.SampleAnswer.{SampleAnswer}
-
--- an answer without a sample
-abbrev pub bare : SampleEnd → SampleAnswer
-bare end = record { end = end; distance = 0; tapes = 0; lengths = replicate max_tapes 0 }
 
 -- a sample: the records of tape 1 stand first in the row, those of the next tape follow directly after it, and cells beyond them keep their
 -- values; the lengths are those of the tapes, 0 for a tape that the flow does not have

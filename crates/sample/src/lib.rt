@@ -6,8 +6,6 @@ ghost use Rattle.std.specs.Prelude.{◌≡◌, true, ◌&&◌, ℕ, suc, ◌≤�
 ghost use Rattle.model.specs.Language.{Flow as FlowOf};
 ghost use Rattle.model.specs.Machine.{exit_if};
 ghost use Rattle.configuration.specs.Inner.Place.{words};
-ghost use Rattle.outside_row.specs.Inner.Table.{IsTable};
-ghost use Rattle.pattern_word.specs.Inner.Pattern.{Width};
 ghost use Rattle.pattern_word.specs.Inner.Span.{real};
 ghost use Rattle.sample_row.specs.Inner.Moves.{Movable};
 ghost use Rattle.sample_row.specs.Inner.Reading.{Ready};
@@ -17,28 +15,27 @@ ghost use Rattle.search_table.specs.Inner.Way.{place_on, Passable, is_read, coun
 ghost use Rattle.sample.specs.Inner.Steps.{wish_of, takes_record, term_in, quiet_walk, walk_to, row_to, last_row, OpFits, Low};
 ghost use Rattle.sample.specs.Inner.Sampling.{course_in, exits_along, CourseLeads, Ends, Roomy, Following, WrittenBy, Tabled, NearestIs};
 ghost use Rattle.sample.specs.Inner.Picking.{PickedIs};
-ghost use Rattle.sample.specs.Written.{bare};
 
-use cells::{Cell, Found};
+use cells::Cell;
 use configuration::{Action, Op, Words, place};
 use flow::{Flow, Refusal};
+use pattern_word::Coding;
 use sample_row::Walk;
 
-// How a wish for a sample ends: with a sample, with none, since no tapes take the exit, or with a refusal.
-#[derive(Clone, Copy)]
-pub enum SampleEnd {
-    Taken,
-    Never,
-    Refused(Refusal),
-}
-
-// What a wish for a sample comes to: the exit's distance, the number of tapes, and their lengths in the record row; all 0 without a sample.
-#[derive(Clone, Copy)]
+// A sample: the exit's distance, the number of tapes, and their lengths in the record row.
+#[derive(Clone, Copy, Debug, PartialEq, Eq)]
 pub struct SampleAnswer {
-    pub end: SampleEnd,
     pub distance: usize,
     pub tapes: usize,
     pub lengths: [usize; Flow::TAPES],
+}
+
+// A flow as a sample follows it: its instructions, prepared, and C1 and C2.
+#[derive(Clone, Copy, Debug, PartialEq, Eq)]
+pub struct Program {
+    pub ops: [Op; Flow::MAX_INSTRUCTIONS],
+    pub lo: i32,
+    pub hi: i32,
 }
 
 // The whole number that the value y of a search stands for.
@@ -47,25 +44,21 @@ fn real(y: u64, lo: i32) -> i32
     requires low { Low lo }
     ensures { result ≡ real lo y }
 {
-    lo - 16 + y as i32
+    lo - pattern_word::LOW as i32 + y as i32
 }
 
 // Values of the pattern of a word.
-fn wish_of(table: &[u16], word: u64, w: u64, lo: i32) -> [i32; Flow::VARIABLES]
-    requires table { IsTable table.now }
-    requires width { Width w }
-    requires low { Low lo }
-    ensures { result ≡ wish_of lo w word }
+#[tactic(auto, using(crate::proofs::Numbers::values_small))]
+fn wish_of(coding: &Coding, word: u64, lo: i32) -> [i32; Flow::VARIABLES]
+    requires { Low lo }
+    ensures { result ≡ wish_of lo coding.now.w word }
 {
-    let values = pattern_word::held(table, word, w);
-    let a = real(values[0], lo);
-    let b = real(values[1], lo);
-    let c = real(values[2], lo);
-    let d = real(values[3], lo);
-    [a, b, c, d]
+    let [a, b, c, d] = coding.held(word);
+    [real(a, lo), real(b, lo), real(c, lo), real(d, lo)]
 }
 
 // The value of term u: a variable, or the constant.
+#[tactic(auto, unfolding(crate::specs::Inner::Steps::term_in))]
 fn term(values: [i32; Flow::VARIABLES], op: Op, lo: i32, u: u8) -> i32
     requires op_fits { OpFits op }
     requires low { Low lo }
@@ -78,102 +71,78 @@ fn term(values: [i32; Flow::VARIABLES], op: Op, lo: i32, u: u8) -> i32
 }
 
 // A step that reads no record.
-fn quiet(walk: Walk, op: Op, lo: i32) -> Walk
+#[tactic(auto, unfolding(crate::specs::Inner::Steps::quiet_walk))]
+fn quiet(mut walk: Walk, op: Op, lo: i32) -> Walk
     requires op_fits { OpFits op }
     requires low { Low lo }
     ensures { result ≡ quiet_walk lo op walk }
 {
-    let action = op.action;
-    match action {
-        Action::Read => {
-            return walk;
-        }
-        Action::Assign => {
-            let mut values = walk.values;
-            let counts = walk.counts;
-            let starts = walk.starts;
-            let x = term(values, op, lo, op.left);
-            let v = op.variable as usize;
-            values[v] = x;
-            return Walk {
-                values,
-                counts,
-                starts,
-            };
-        }
-        Action::Test => {
-            return walk;
-        }
-        Action::Go => {
-            return walk;
-        }
-        Action::Stop => {
-            return walk;
-        }
+    if let Action::Assign = op.action {
+        walk.values[op.variable as usize] = term(walk.values, op, lo, op.left);
     }
+    walk
 }
 
 // Whether a step of op to the words `next` reads a record: a read that finds none ends its tape.
+#[tactic(auto, unfolding(crate::specs::Inner::Steps::takes_record))]
 fn takes_record(op: Op, next: Words) -> bool
     ensures { result ≡ takes_record op next }
 {
-    let action = op.action;
-    if search_table::is_read(action) {
-        let ended = place::ended(next.place, op.tape);
-        return !ended;
-    }
-    false
+    matches!(op.action, Action::Read) && !place::ended(next.place, op.tape)
 }
 
 // One step, of whatever kind, to the words `next`.
+#[tactic(auto, unfolding(crate::specs::Inner::Steps::walk_to, crate::specs::Inner::Steps::row_to))]
 fn step(
     row: &mut [i32],
-    table: &[u16],
+    coding: &Coding,
+    program: &Program,
     walk: Walk,
     op: Op,
     next: Words,
-    w: u64,
-    lo: i32,
-    hi: i32,
 ) -> Walk
-    requires table { IsTable table.now }
-    requires width { Width w }
-    requires low { Low lo }
+    requires low { Low program.now.lo }
     requires op_fits { OpFits op }
-    requires ready { takes_record op next ≡ true → Ready walk op.tape op.variable row.old × Movable lo × Movable hi }
-    ensures { (result ≡ walk_to lo hi w op next walk) × (row.new ≡ row_to lo hi w op next walk row.old) }
+    requires ready { takes_record op next ≡ true
+        → Ready walk op.tape op.variable row.old × Movable program.now.lo × Movable program.now.hi }
+    ensures { (result ≡ walk_to program.now.lo program.now.hi coding.now.w op next walk)
+        × (row.new ≡ row_to program.now.lo program.now.hi coding.now.w op next walk row.old) }
 {
-    if takes_record(op, next) {
-        let wish = wish_of(table, next.pattern, w, lo);
-        let a = op.tape as usize;
-        let v = op.variable as usize;
-        return sample_row::read_one(row, walk, lo, hi, wish, a, v);
+    let lo = program.lo;
+    if !takes_record(op, next) {
+        return quiet(walk, op, lo);
     }
-    quiet(walk, op, lo)
+    let wish = wish_of(coding, next.pattern, lo);
+    walk.read(
+        row,
+        lo,
+        program.hi,
+        wish,
+        op.tape as usize,
+        op.variable as usize,
+    )
 }
 
 // The record of the last step, if that step takes p of a read: the one that is chosen for the wish 0.
-fn last_read(row: &mut [i32], walk: Walk, op: Op, exit: bool, lo: i32, hi: i32)
+#[tactic(auto, unfolding(crate::specs::Inner::Steps::last_row))]
+fn last_read(row: &mut [i32], program: &Program, walk: Walk, op: Op, exit: bool)
     requires op_fits { OpFits op }
-    requires ready { (is_read op.action && exit) ≡ true → Ready walk op.tape op.variable row.old × Movable lo × Movable hi }
-    ensures { row.new ≡ last_row lo hi op exit walk row.old }
+    requires ready { (is_read op.action && exit) ≡ true
+        → Ready walk op.tape op.variable row.old × Movable program.now.lo × Movable program.now.hi }
+    ensures { row.new ≡ last_row program.now.lo program.now.hi op exit walk row.old }
 {
-    let action = op.action;
-    if search_table::is_read(action) {
-        let last = exit;
-        if last {
-            let mut wish = walk.values;
-            let a = op.tape as usize;
-            let v = op.variable as usize;
-            wish[v] = 0;
-            sample_row::read_one(row, walk, lo, hi, wish, a, v);
-        }
+    if matches!(op.action, Action::Read) && exit {
+        let v = op.variable as usize;
+        let mut wish = walk.values;
+        wish[v] = 0;
+        walk.read(row, program.lo, program.hi, wish, op.tape as usize, v);
     }
 }
 
 // The words at place t of a way.
 fn words_on(cells: &[[u32; Cell::WORDS]], t: usize) -> Words
-    requires { (t < length cells.now) × (get_or (column way_field cells.now) t 0 < length cells.now) }
+    requires t_in_bounds { t < length cells.now }
+    requires t_in_bounds_2 { get_or (column way_field cells.now) t 0 < length cells.now }
     ensures { result ≡ words (place_on (word_column place_field cells.now) (column way_field cells.now) t)
         (get_or (word_column pattern_field cells.now) (get_or (column way_field cells.now) t 0) 0) }
 {
@@ -193,42 +162,31 @@ fn sizes_of(
     ensures { result ≡ counted_of (reads_on ops (word_column place_field cells.now) (column way_field cells.now) steps) op exit }
 {
     let counts = search_table::reads(cells, ops, steps);
-    let all = search_table::counted(counts, op, exit);
-    let a = cells::wide(all[0]);
-    let b = cells::wide(all[1]);
-    let c = cells::wide(all[2]);
-    [a, b, c]
+    search_table::counted(counts, op, exit).map(cells::wide)
 }
 
 // The steps of a way, from its start to its end.
 fn write_steps(
     cells: &[[u32; Cell::WORDS]],
-    table: &[u16],
+    coding: &Coding,
     steps: usize,
-    ops: [Op; Flow::MAX_INSTRUCTIONS],
-    w: u64,
-    lo: i32,
-    hi: i32,
+    program: &Program,
     sizes: [usize; Flow::TAPES],
     row: &mut [i32],
 ) -> Walk
-    requires table { IsTable table.now }
-    requires course_leads { (flow : FlowOf) × CourseLeads (course_in cells.now steps ops w lo hi) flow }
-    requires roomy { Roomy (course_in cells.now steps ops w lo hi) sizes (length row.old) }
+    requires course_leads { (flow : FlowOf) × CourseLeads (course_in cells.now steps coding.now.w program.now) flow }
+    requires roomy { Roomy (course_in cells.now steps coding.now.w program.now) sizes (length row.old) }
     ensures { (flow : FlowOf)
-        → CourseLeads (course_in cells.now steps ops w lo hi) flow
-        → Following (course_in cells.now steps ops w lo hi) flow sizes
+        → CourseLeads (course_in cells.now steps coding.now.w program.now) flow
+        → Following (course_in cells.now steps coding.now.w program.now) flow sizes
         row.old steps result row.new }
 {
-    let mut walk = sample_row::first_walk(sizes);
-    let mut t = 0;
-    while t < steps {
+    let mut walk = Walk::new(sizes);
+    for t in 0..steps {
         let here = words_on(cells, t);
-        let i = search_table::index(here.place);
-        let op = ops[i];
-        t += 1;
-        let next = words_on(cells, t);
-        walk = step(row, table, walk, op, next, w, lo, hi);
+        let op = program.ops[search_table::index(here.place)];
+        let next = words_on(cells, t + 1);
+        walk = step(row, coding, program, walk, op, next);
     }
     walk
 }
@@ -236,115 +194,87 @@ fn write_steps(
 // A sample for the exit, p if `exit`, of the instruction at the end of a way: its records in the row, and the lengths of its tapes.
 fn write_sample(
     cells: &[[u32; Cell::WORDS]],
-    table: &[u16],
+    coding: &Coding,
     steps: usize,
-    ops: [Op; Flow::MAX_INSTRUCTIONS],
-    w: u64,
-    lo: i32,
-    hi: i32,
+    program: &Program,
     exit: bool,
     row: &mut [i32],
 ) -> [usize; Flow::TAPES]
-    requires table { IsTable table.now }
-    requires course_leads { (flow : FlowOf) × CourseLeads (course_in cells.now steps ops w lo hi) flow
-        × Ends (course_in cells.now steps ops w lo hi) flow exit }
-    requires steps_in_bounds { suc (exits_along (course_in cells.now steps ops w lo hi) steps) ≤ length row.old }
+    requires course_leads { (flow : FlowOf) × CourseLeads (course_in cells.now steps coding.now.w program.now) flow
+        × Ends (course_in cells.now steps coding.now.w program.now) flow exit }
+    requires steps_in_bounds { suc (exits_along (course_in cells.now steps coding.now.w program.now) steps) ≤ length row.old }
     ensures { (flow : FlowOf)
-        → CourseLeads (course_in cells.now steps ops w lo hi) flow
-        → Ends (course_in cells.now steps ops w lo hi) flow exit
-        → WrittenBy (course_in cells.now steps ops w lo hi) flow exit
+        → CourseLeads (course_in cells.now steps coding.now.w program.now) flow
+        → Ends (course_in cells.now steps coding.now.w program.now) flow exit
+        → WrittenBy (course_in cells.now steps coding.now.w program.now) flow exit
         row.old row.new result }
 {
-    let i = search_table::index(search_table::place_on(cells, steps));
-    let op = ops[i];
-    let sizes = sizes_of(cells, steps, ops, op, exit);
-    let walk = write_steps(cells, table, steps, ops, w, lo, hi, sizes, row);
-    last_read(row, walk, op, exit, lo, hi);
+    let op = program.ops[search_table::index(search_table::place_on(cells, steps))];
+    let sizes = sizes_of(cells, steps, program.ops, op, exit);
+    let walk = write_steps(cells, coding, steps, program, sizes, row);
+    last_read(row, program, walk, op, exit);
     sizes
-}
-
-// The answer without a sample.
-pub fn without(end: SampleEnd) -> SampleAnswer
-    ensures { result ≡ bare end }
-{
-    SampleAnswer {
-        end,
-        distance: 0,
-        tapes: 0,
-        lengths: [0; Flow::TAPES],
-    }
 }
 
 // The sample for an exit, p if `exit`; entry k is the nearest that takes it. The way to the entry is written into the cells, and the records
 // that are read on it into the row.
 fn sample_at(
     cells: &mut [[u32; Cell::WORDS]],
-    table: &[u16],
+    coding: &Coding,
     n: usize,
-    ops: [Op; Flow::MAX_INSTRUCTIONS],
-    w: u64,
-    lo: i32,
-    hi: i32,
+    program: &Program,
     tapes: usize,
     k: usize,
     exit: bool,
     row: &mut [i32],
-) -> SampleAnswer
-    requires table { IsTable table.now }
+) -> Result<Option<SampleAnswer>, Refusal>
     requires by_index { (flow : FlowOf) × (i : ℕ)
-        × Tabled flow (entries_of (columns_of cells.old)) n (length cells.old) ops w lo hi i
-        × NearestIs w (entries_of (columns_of cells.old)) n ops i (exit_if exit) (Found.At k) }
+        × Tabled flow (entries_of (columns_of cells.old)) n (length cells.old) coding.now.w program.now i
+        × NearestIs coding.now.w (entries_of (columns_of cells.old)) n program.now.ops i (exit_if exit) (Some k) }
     ensures { (flow : FlowOf) (i : ℕ)
         → Tabled flow (entries_of (columns_of cells.old)) n
-        (length cells.old) ops w lo hi i
-        → NearestIs w (entries_of (columns_of cells.old)) n ops i
-        (exit_if exit) (Found.At k)
-        → PickedIs flow tapes i (exit_if exit) row.old row.new result result.end }
+        (length cells.old) coding.now.w program.now i
+        → NearestIs coding.now.w (entries_of (columns_of cells.old)) n program.now.ops i
+        (exit_if exit) (Some k)
+        → PickedIs flow tapes i (exit_if exit) row.old row.new result }
 {
     let d = cells::wide(cells::get(cells, k, Cell::DISTANCE));
     let steps = cells::depth(cells, n, k);
     let short = row.len() <= d;
     if short {
-        return without(SampleEnd::Refused(Refusal::ShortRow));
+        return Err(Refusal::ShortRow);
     }
     cells::trace(cells, n, k, steps);
-    let lengths = write_sample(cells, table, steps, ops, w, lo, hi, exit, row);
+    let lengths = write_sample(cells, coding, steps, program, exit, row);
     let distance = d + 1;
-    SampleAnswer {
-        end: SampleEnd::Taken,
+    Ok(Some(SampleAnswer {
         distance,
         tapes,
         lengths,
-    }
+    }))
 }
 
 // The sample for an exit of an instruction, p if `exit`, of a flow with so many tapes, from a finished table of n entries.
 pub fn sample_for(
     cells: &mut [[u32; Cell::WORDS]],
-    table: &[u16],
+    coding: &Coding,
     n: usize,
-    ops: [Op; Flow::MAX_INSTRUCTIONS],
-    w: u64,
-    lo: i32,
-    hi: i32,
+    program: &Program,
     tapes: usize,
     instruction: usize,
     exit: bool,
     row: &mut [i32],
-) -> SampleAnswer
-    requires table { IsTable table.now }
+) -> Result<Option<SampleAnswer>, Refusal>
     requires tabled { (flow : FlowOf)
-        × Tabled flow (entries_of (columns_of cells.old)) n (length cells.old) ops w lo hi instruction }
+        × Tabled flow (entries_of (columns_of cells.old)) n (length cells.old) coding.now.w program.now instruction }
     ensures { (flow : FlowOf)
         → Tabled flow (entries_of (columns_of cells.old)) n
-        (length cells.old) ops w lo hi instruction
-        → PickedIs flow tapes instruction (exit_if exit) row.old row.new result result.end }
+        (length cells.old) coding.now.w program.now instruction
+        → PickedIs flow tapes instruction (exit_if exit) row.old row.new result }
 {
-    let at = instruction - 1;
-    let op = ops[at];
-    let found = search_table::nearest(cells, table, n, op, w, instruction, exit);
-    match found {
-        Found::Nothing => without(SampleEnd::Never),
-        Found::At(k) => sample_at(cells, table, n, ops, w, lo, hi, tapes, k, exit, row),
+    let op = program.ops[instruction - 1];
+    match search_table::nearest(cells, coding, n, op, instruction, exit) {
+        Some(k) => sample_at(cells, coding, n, program, tapes, k, exit, row),
+        None => Ok(None),
     }
 }

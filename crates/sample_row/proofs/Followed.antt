@@ -1,6 +1,6 @@
 -- One step of a path, from the graph to the row. The run on the tapes written so far stands at the path's configuration, with the
 -- values of the walk. An edge that reads no record changes the values as the instruction says. An edge that takes p of a read is
--- followed by `read_one`, if the wish has the pattern of the edge's end.
+-- followed by `Walk::read`, if the wish has the pattern of the edge's end.
 use mathlib.Core.Path.{◌≡◌, refl, sym, ap, ◌∙◌, subst}
 use mathlib.Core.Bool.{Bool, false}
 use mathlib.Core.List.{List, [], map}

@@ -1,15 +1,12 @@
 -- A list whose first i numbers are mapped: the invariant of the loop that shifts a part, said by take and drop.
 use mathlib.Core.Path.{◌≡◌, refl, sym, ap, ◌∙◌}
-use mathlib.Core.Bool.{Bool, true, false}
 use mathlib.Core.List.{List, [], ◌∷◌, ◌++◌, map, map-append, append-nil}
-use Prim.Native.Nat.{ℕ, suc, ◌+◌, ◌-◌, ◌≤◌, ◌<◌}
+use Prim.Native.Nat.{ℕ, suc, ◌+◌, ◌≤◌, ◌<◌}
 use native.Mathlib.Omega.{arith}
 use native.Mathlib.Numerals.{add-one}
 use lib.IntN.{ℤ, pos}
 use lib.ListN.{length, get_or, take, drop, set, length-take, length-map, drop_of_length-le}
 use lib.Seq.{drop-cons, take-suc, set_at, get_or_at, take_all, append_snoc}
-use Rattle.sample_row.specs.Inner.Moves.{further, outward, moved}
-use Rattle.sample_row.specs.Inner.Layout.{on_part}
 
 unfoldable pub Mapped : (ℤ → ℤ) → List ℤ → ℕ → List ℤ → Type 0
 Mapped f l i m = m ≡ map f (take i l) ++ drop i l
@@ -41,20 +38,3 @@ module _ (f : ℤ → ℤ) (l : List ℤ) where
   pub mapped_all : (m : List ℤ) (i : ℕ) → Mapped f l i m → length l ≤ i → m ≡ map f l
   unfolding Mapped
   mapped_all m i d h = d ∙ rw (take_all i l h, drop_of_length-le l h, append-nil)
-
--- one number
-pub moved_yes : (up : Bool) (m x : ℤ) → further up m x ≡ true → outward up x ≡ moved up m x
-unfolding moved
-moved_yes up m x h = rw h
-
-pub moved_no : (up : Bool) (m x : ℤ) → further up m x ≡ false → x ≡ moved up m x
-unfolding moved
-moved_no up m x h = rw h
-
--- the part of a row from s to s + k
-pub add_sub : (s k : ℕ) → s + k - s ≡ k
-add_sub s k = omega arith
-
-pub part-is : (f : ℤ → ℤ) (l : List ℤ) (s k : ℕ) (ys : List ℤ) → ys ≡ map f (take (s + k - s) (drop s l))
-    → take s l ++ (ys ++ drop (s + k - s) (drop s l)) ≡ on_part f s k l
-part-is f l s k ys h = rw (h, add_sub s k)

@@ -2,12 +2,11 @@
 -- last stays as it is.
 use mathlib.Core.Path.{◌≡◌, refl, sym, ap, ap₂, ◌∙◌, subst}
 use mathlib.Core.List.{List, [], ◌∷◌, ◌++◌, map}
-use Prim.Native.Nat.{ℕ, suc, ◌+◌, ◌-◌, ◌≤◌, ◌<◌}
+use Prim.Native.Nat.{ℕ, min, ◌+◌, ◌-◌, ◌≤◌}
 use native.Mathlib.Omega.{arith}
-use native.Mathlib.Numerals.{add-one}
 use lib.IntN.{ℤ}
-use lib.ListN.{length, get_or, take, drop, length-append, length-take, length-drop, length-map, drop_of_length-le}
-use lib.Seq.{take_at, drop_at, take-append-le, drop-cons, drop-drop, take-take, take-add}
+use lib.ListN.{length, take, drop, length-append, length-take, length-drop, length-map}
+use lib.Seq.{take_at, drop_at, take-append-le, drop-drop, take-take, take-add}
 use Rattle.sample_row.specs.Inner.Layout.{tapes_at, on_part, on_parts, Apart}
 use Rattle.model.specs.Inner.Lists.{All}
 
@@ -127,40 +126,18 @@ module _ (f : ℤ → ℤ) where
       ∙ same_drop (on_part f s k l) l (s + k) end b (part_behind f s k l h)
 
   -- ---- the loop over the parts
-  module _ (P : List ℤ → Type 0) (ss ks : List ℕ) (l : List ℤ) (i : ℕ) (h : i < length ss) (k : i < length ks) where
-    abbrev s : ℕ
-    s = get_or ss i 0
+  module _ (P : List ℤ → Type 0) (s k : ℕ) (ss ks : List ℕ) (l : List ℤ) (r : Apart 0 (s ∷ ss) (k ∷ ks) (length l)) where
+    pub part_fits : s + k ≤ length l
+    part_fits = fits 0 s k ss ks l r
 
-    abbrev n : ℕ
-    n = get_or ks i 0
+    pub apart_next : Apart 0 ss ks (length (on_part f s k l))
+    apart_next = apart-less (s + k) 0 ss ks (length (on_part f s k l)) (omega arith) (apart_rest 0 s k ss ks l r)
 
-    pub parts-step : on_parts f (drop i ss) (drop i ks) l ≡ on_parts f (drop (i + 1) ss) (drop (i + 1) ks) (on_part f (get_or ss i 0) (get_or ks i 0) l)
-    unfolding on_parts
-    parts-step = rw (drop-cons ss i 0 h, drop-cons ks i 0 k, add-one)
+    pub all-next : All P (tapes_at ss ks l) → All P (tapes_at ss ks (on_part f s k l))
+    all-next g = rw (tapes_rest 0 s k ss ks l r) g
 
-    module _ (r : Apart 0 (drop i ss) (drop i ks) (length l)) where
-      here : Apart 0 (s ∷ drop (suc i) ss) (n ∷ drop (suc i) ks) (length l)
-      here = rw (drop-cons ss i 0 h, drop-cons ks i 0 k) at r
-
-      pub part_fits : get_or ss i 0 + get_or ks i 0 ≤ length l
-      part_fits = fits 0 s n (drop (suc i) ss) (drop (suc i) ks) l here
-
-      pub apart_next : Apart 0 (drop (i + 1) ss) (drop (i + 1) ks) (length (on_part f (get_or ss i 0) (get_or ks i 0) l))
-      apart_next = rw add-one (apart-less (s + n) 0 (drop (suc i) ss) (drop (suc i) ks) (length (on_part f s n l)) (omega arith)
-          (apart_rest 0 s n (drop (suc i) ss) (drop (suc i) ks) l here))
-
-      -- what holds of every tape
-      split : All P (tapes_at (drop i ss) (drop i ks) l) → All P (take n (drop s l) ∷ tapes_at (drop (suc i) ss) (drop (suc i) ks) l)
-      unfolding tapes_at
-      split g = rw (drop-cons ss i 0 h, drop-cons ks i 0 k) at g
-
-      pub part-all : All P (tapes_at (drop i ss) (drop i ks) l) → P (take (get_or ks i 0) (drop (get_or ss i 0) l))
-      part-all g = (split g).0
-
-      pub all-next : All P (tapes_at (drop i ss) (drop i ks) l)
-          → All P (tapes_at (drop (i + 1) ss) (drop (i + 1) ks) (on_part f (get_or ss i 0) (get_or ks i 0) l))
-      all-next g = rw (add-one, tapes_rest 0 s n (drop (suc i) ss) (drop (suc i) ks) l here) (split g).1
-
-  pub parts-end : (ss ks : List ℕ) (l : List ℤ) (i : ℕ) → length ss ≤ i → on_parts f (drop i ss) ks l ≡ l
+  pub parts_short : (ss ks : List ℕ) (l : List ℤ) → min (length ss) (length ks) ≡ 0 → on_parts f ss ks l ≡ l
   unfolding on_parts
-  parts-end ss ks l i h = rw (drop_of_length-le ss h)
+  parts_short [] ks l h = refl
+  parts_short (s ∷ ss) [] l h = refl
+  parts_short (s ∷ ss) (k ∷ ks) l h = absurd (omega arith)

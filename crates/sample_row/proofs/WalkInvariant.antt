@@ -1,5 +1,5 @@
 -- What a walk keeps, whatever the wishes are: the tapes lie in their parts, and all numbers stay near. From this follows all that
--- `read_one` asks. A read moves all tapes, puts one record more on its tape, and leaves the cells beyond the parts as they are.
+-- `Walk::read` asks. A read moves all tapes, puts one record more on its tape, and leaves the cells beyond the parts as they are.
 use mathlib.Core.Path.{◌≡◌, refl, sym, ap, ◌∙◌, subst}
 use mathlib.Core.List.{List, [], ◌∷◌, ◌++◌, map}
 use Prim.Native.Nat.{ℕ, suc, ◌≤◌, ◌<◌}
@@ -37,17 +37,17 @@ module _ (ss ks : List ℕ) (row : List ℤ) where
   roomed-tapes : (c : Choice) → Apart 0 ss ks (length row) → tapes_at ss ks (roomed c ss ks row) ≡ map (map (move_of c)) (tapes_at ss ks row)
   unfolding roomed move_of
   roomed-tapes (Take x) r = sym (map_same (map (λ y. y)) (map_same (λ y. y) (λ y. refl)) (tapes_at ss ks row))
-  roomed-tapes (Between up m) r = parts-tapes (moved up m) 0 ss ks row r
+  roomed-tapes (Between out m) r = parts-tapes (moved out m) 0 ss ks row r
 
   roomed-length : (c : Choice) → Apart 0 ss ks (length row) → length (roomed c ss ks row) ≡ length row
   unfolding roomed
   roomed-length (Take x) r = refl
-  roomed-length (Between up m) r = parts-length (moved up m) 0 ss ks row r
+  roomed-length (Between out m) r = parts-length (moved out m) 0 ss ks row r
 
   roomed_behind : (c : Choice) (end : ℕ) → Apart 0 ss ks end → end ≤ length row → drop end (roomed c ss ks row) ≡ drop end row
   unfolding roomed
   roomed_behind (Take x) end r n = refl
-  roomed_behind (Between up m) end r n = parts_behind (moved up m) 0 end ss ks row r n
+  roomed_behind (Between out m) end r n = parts_behind (moved out m) 0 end ss ks row r n
 
 module _ {lo hi : ℤ} {sizes : List ℕ} {walk : Walk} {row : List ℤ} (fit : WalkFits lo hi sizes walk row) where
   abbrev r : ℕ
@@ -62,7 +62,7 @@ module _ {lo hi : ℤ} {sizes : List ℕ} {walk : Walk} {row : List ℤ} (fit : 
   counts-three : length walk.counts ≡ 3
   counts-three = laid-count 0 walk.starts walk.counts sizes fit.laid ∙ fit.three
 
-  -- all of what `read_one` asks
+  -- all of what `Walk::read` asks
   pub fit-ready : Inside lo hi (pos 0) → (a u : ℕ) → a < 3 → u < 4 → get_or walk.counts a 0 < get_or sizes a 0
       → Ready walk a u row × Movable lo × Movable hi
   fit-ready z a u ha hu free = (

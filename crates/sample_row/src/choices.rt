@@ -1,112 +1,87 @@
 // Which record a read gets. This is decided by comparing the wish with the values; the row is not looked at.
-ghost use Rattle.std.specs.Prelude.{◌≡◌, cond, ◌&&◌, ◌<◌};
-ghost use Rattle.model.specs.Pattern.{equal};
-ghost use Rattle.model.specs.Inner.Runs.{furthest as furthest_of};
+ghost use Rattle.std.specs.Prelude.{◌≡◌, ◌<◌};
+ghost use Rattle.model.specs.Inner.Runs.{furthest};
 ghost use Rattle.flow.specs.Limits.{max_variables};
-ghost use Rattle.sample_row.specs.Inner.Moves.{further as further_of};
-ghost use Rattle.sample_row.specs.Inner.Choices.{first_at, choose_beyond, choose as choose_of, chosen, record_of, Safe};
+ghost use Rattle.sample_row.specs.Inner.Moves.{further};
+ghost use Rattle.sample_row.specs.Inner.Choices.{first_at, choose_beyond, choose, chosen, record_of, Safe};
 
-use crate::{Choice, Values, moves};
-use flow::Flow;
+use crate::{Choice, Direction, Values};
 
-// The further of m and b, if a lies before y; else m.
-fn pick(up: bool, y: i32, a: i32, b: i32, m: i32) -> i32
-    ensures { result ≡ cond (further_of up a y && further_of up m b) b m }
-{
-    if moves::further(up, a, y) {
-        if moves::further(up, m, b) {
-            return b;
+// What the variables that are not read shall have the pattern of, and what they hold.
+#[derive(Clone, Copy)]
+struct Others {
+    wish: Values,
+    values: Values,
+}
+
+impl Others {
+    // The furthest of the edge and the values whose wish lies before y.
+    fn furthest(self, out: Direction, edge: i32, y: i32) -> i32
+        ensures { result ≡ furthest (further out) edge y self.wish self.values }
+    {
+        let mut m = edge;
+        for (a, b) in self.wish.iter().zip(self.values.iter()) {
+            if out.further(*a, y) && out.further(m, *b) {
+                m = *b;
+            }
         }
-        return m;
+        m
     }
-    m
-}
 
-// The furthest of the edge and the values whose wish lies before y.
-fn furthest(up: bool, edge: i32, y: i32, wish: Values, values: Values) -> i32
-    ensures { result ≡ furthest_of (further_of up) edge y wish values }
-{
-    let mut m = edge;
-    let mut i = 0;
-    while i < Flow::VARIABLES {
-        let a = wish[i];
-        let b = values[i];
-        m = pick(up, y, a, b, m);
-        i += 1;
+    // The first place of y in the wish.
+    fn first_at(self, y: i32) -> Option<usize>
+        ensures { result ≡ first_at y self.wish }
+    {
+        self.wish.iter().position(|x| *x == y)
     }
-    m
-}
 
-fn same(x: i32, y: i32) -> bool
-    ensures { result ≡ equal x y }
-{
-    if x < y {
-        return false;
-    }
-    !(y < x)
-}
-
-// The first place of y in the wish, or one past its last.
-fn first_at(y: i32, wish: Values) -> usize
-    ensures { result ≡ first_at 0 y wish }
-{
-    let mut i = 0;
-    while i < Flow::VARIABLES {
-        let x = wish[i];
-        if same(x, y) {
-            return i;
+    // The choice for a wish y beyond the edge.
+    #[tactic(auto, unfolding(crate::specs::Inner::Choices::choose_beyond))]
+    fn choose_beyond(self, out: Direction, edge: i32, y: i32) -> Choice
+        ensures { result ≡ choose_beyond out edge y self.wish self.values }
+    {
+        match self.first_at(y) {
+            Some(i) => Choice::Take(self.values[i]),
+            None => Choice::Between(out, self.furthest(out, edge, y)),
         }
-        i += 1;
     }
-    Flow::VARIABLES
+
+    // The choice for a wish y.
+    #[tactic(auto, unfolding(crate::specs::Inner::Choices::choose))]
+    fn choose(self, lo: i32, hi: i32, y: i32) -> Choice
+        ensures { result ≡ choose lo hi y self.wish self.values }
+    {
+        if hi < y {
+            self.choose_beyond(Direction::Up, hi, y)
+        } else if y < lo {
+            self.choose_beyond(Direction::Down, lo, y)
+        } else {
+            Choice::Take(y)
+        }
+    }
 }
 
-// The choice for a wish y beyond the edge.
-fn choose_beyond(up: bool, edge: i32, y: i32, wish: Values, values: Values) -> Choice
-    ensures { result ≡ choose_beyond up edge y wish values }
-{
-    let i = first_at(y, wish);
-    if i < Flow::VARIABLES {
-        let x = values[i];
-        return Choice::Take(x);
+impl Choice {
+    // The choice for variable v.
+    pub(crate) fn new(lo: i32, hi: i32, mut wish: Values, mut values: Values, v: usize) -> Self
+        requires { v < max_variables }
+        ensures { result ≡ chosen lo hi wish values v }
+    {
+        let y = wish[v];
+        wish[v] = 0;
+        values[v] = 0;
+        Others { wish, values }.choose(lo, hi, y)
     }
-    let t = furthest(up, edge, y, wish, values);
-    Choice::Between(up, t)
-}
 
-// The choice for a wish y, beside the wishes and values of the other variables.
-fn choose(lo: i32, hi: i32, y: i32, wish: Values, values: Values) -> Choice
-    ensures { result ≡ choose_of lo hi y wish values }
-{
-    if hi < y {
-        return choose_beyond(true, hi, y, wish, values);
-    }
-    if y < lo {
-        return choose_beyond(false, lo, y, wish, values);
-    }
-    Choice::Take(y)
-}
-
-// The choice for variable v.
-pub fn choice_for(lo: i32, hi: i32, wish: Values, values: Values, v: usize) -> Choice
-    requires { v < max_variables }
-    ensures { result ≡ chosen lo hi wish values v }
-{
-    let y = wish[v];
-    let mut others = wish;
-    others[v] = 0;
-    let mut held = values;
-    held[v] = 0;
-    choose(lo, hi, y, others, held)
-}
-
-// The record itself.
-pub fn record_of(choice: Choice) -> i32
-    requires { Safe choice }
-    ensures { result ≡ record_of choice }
-{
-    match choice {
-        Choice::Take(x) => x,
-        Choice::Between(up, m) => moves::outward(up, m),
+    // The record itself.
+    #[tactic(auto, unfolding(crate::specs::Inner::Choices::record_of))]
+    pub(crate) fn record(self) -> i32
+        requires { Safe self }
+        ensures { result ≡ record_of self }
+    {
+        match self {
+            Choice::Take(x) => x,
+            Choice::Between(out, m) => out.outward(m),
+        }
     }
 }

@@ -8,14 +8,12 @@
 mod moves; // moves.rt: one outward
 mod choices; // choices.rt: which record
 
-ghost use Rattle.std.specs.Prelude.{◌≡◌, map, min, ◌+◌, ◌≤◌, ◌<◌, length, take, set};
+ghost use Rattle.std.specs.Prelude.{◌≡◌, min, ◌+◌, ◌≤◌, ◌<◌, length, set};
 ghost use Rattle.model.specs.Tapes.{total};
-ghost use Rattle.model.specs.Inner.Lists.{All};
 ghost use Rattle.sample_row.specs.Part.{span_of, IsPart};
 ghost use Rattle.sample_row.specs.Inner.Moves.{Movable};
-ghost use Rattle.sample_row.specs.Inner.Layout.{tapes_at, Apart};
-ghost use Rattle.sample_row.specs.Inner.Choices.{chosen, move_of, Safe};
-ghost use Rattle.sample_row.specs.Inner.Reading.{first_walk, roomed, walk_after, row_after, Ready};
+ghost use Rattle.sample_row.specs.Inner.Choices.{chosen, Safe};
+ghost use Rattle.sample_row.specs.Inner.Reading.{first_walk, walk_after, row_after, Ready};
 ghost use Rattle.sample_row.specs.Inner.WalkFits.{most_records};
 
 use flow::Flow;
@@ -23,16 +21,24 @@ use flow::Flow;
 // A value for each variable.
 pub type Values = [i32; Flow::VARIABLES];
 
+// The way in which numbers lie and move out, away from those between C1 and C2.
+#[derive(Clone, Copy, Debug, PartialEq, Eq)]
+pub enum Direction {
+    Up,
+    Down,
+}
+
 // What a read gets: a number that needs no room, or the number next to m, outward; then the numbers beyond m move.
-#[derive(Clone, Copy)]
+#[derive(Clone, Copy, Debug, PartialEq, Eq)]
 pub enum Choice {
     Take(i32),
-    Between(bool, i32),
+    Between(Direction, i32),
 }
 
 // What is held while a sample is written: the values of the variables, how many records each tape has so far, and the cell where
 // its part of the row starts.
-#[derive(Clone, Copy)]
+// Kept: counts and starts are two arrays, since the counts alone are compared with those of a way (crate sample).
+#[derive(Clone, Copy, Debug, PartialEq, Eq)]
 pub struct Walk {
     pub values: Values,
     pub counts: [usize; Flow::TAPES],
@@ -40,64 +46,10 @@ pub struct Walk {
 }
 
 // A part of a row: the cell where it starts, and how many records it holds.
-#[derive(Clone, Copy)]
+#[derive(Clone, Copy, Debug, PartialEq, Eq)]
 pub struct Span {
     pub start: usize,
     pub count: usize,
-}
-
-// The start: nothing is written, every variable is 0, and the part of each tape has as many cells as its size.
-pub fn first_walk(sizes: [usize; Flow::TAPES]) -> Walk
-    requires { total sizes ≤ most_records }
-    ensures { result ≡ first_walk sizes }
-{
-    let first = sizes[0];
-    let second = sizes[1];
-    let values = [0; Flow::VARIABLES];
-    let counts = [0; Flow::TAPES];
-    let starts = [0, first, first + second];
-    Walk {
-        values,
-        counts,
-        starts,
-    }
-}
-
-// Room for the record among those written so far.
-fn make_room(
-    row: &mut [i32],
-    starts: [usize; Flow::TAPES],
-    counts: [usize; Flow::TAPES],
-    choice: Choice,
-)
-    requires { Apart 0 starts counts (length row.old) × All (All Movable) (tapes_at starts counts row.old) }
-    ensures { row.new ≡ roomed choice starts counts row.old }
-{
-    match choice {
-        Choice::Take(_) => {}
-        Choice::Between(up, m) => moves::shift_all(row, starts, counts, up, m),
-    }
-}
-
-// Room for it among the values.
-fn moved_values(choice: Choice, values: Values) -> Values
-    requires { All Movable values }
-    ensures { result ≡ map (move_of choice) values }
-{
-    let mut out = values;
-    match choice {
-        Choice::Take(_) => {}
-        Choice::Between(up, m) => moves::shift(&mut out, up, m),
-    }
-    out
-}
-
-// A record into cell k of a part.
-fn put_at(part: &mut [i32], k: usize, x: i32)
-    requires { k < length part.old }
-    ensures { part.new ≡ set part.old k x }
-{
-    part[k] = x;
 }
 
 // A record behind the k records of the part that starts at s.
@@ -105,97 +57,90 @@ fn put(row: &mut [i32], s: usize, k: usize, x: i32)
     requires { s + k < length row.old }
     ensures { row.new ≡ set row.old (s + k) x }
 {
-    put_at(&mut row[s..], k, x);
+    let part = &mut row[s..];
+    part[k] = x;
 }
 
-// The chosen record to tape a and variable v.
-fn add_record(row: &mut [i32], walk: Walk, a: usize, v: usize, choice: Choice) -> Walk
-    requires { Ready walk a v row.old × Safe choice }
-    ensures { (result ≡ walk_after choice a v walk) × (row.new ≡ row_after choice a walk row.old) }
-{
-    let starts = walk.starts;
-    let mut counts = walk.counts;
-    let old = walk.values;
-    make_room(row, starts, counts, choice);
-    let mut values = moved_values(choice, old);
-    let x = choices::record_of(choice);
-    values[v] = x;
-    let s = starts[a];
-    let k = counts[a];
-    put(row, s, k, x);
-    counts[a] = k + 1;
-    Walk {
-        values,
-        counts,
-        starts,
+impl Walk {
+    // The start: nothing is written, every variable is 0, and the part of each tape has as many cells as its size.
+    pub fn new(sizes: [usize; Flow::TAPES]) -> Self
+        requires { total sizes ≤ most_records }
+        ensures { result ≡ first_walk sizes }
+    {
+        Walk {
+            values: [0; Flow::VARIABLES],
+            counts: [0; Flow::TAPES],
+            starts: [0, sizes[0], sizes[0] + sizes[1]],
+        }
+    }
+
+    // The chosen record to tape a and variable v, and room for it among the records and values so far.
+    #[tactic(auto, unfolding(crate::specs::Inner::Choices::move_of, crate::specs::Inner::Reading::roomed))]
+    fn add_record(mut self, row: &mut [i32], a: usize, v: usize, choice: Choice) -> Self
+        requires { Ready self a v row.old × Safe choice }
+        ensures { (result ≡ walk_after choice a v self) × (row.new ≡ row_after choice a self row.old) }
+    {
+        if let Choice::Between(out, m) = choice {
+            self.shift_records(row, out, m);
+            moves::shift(&mut self.values, out, m);
+        }
+        let x = choice.record();
+        self.values[v] = x;
+        put(row, self.starts[a], self.counts[a], x);
+        self.counts[a] += 1;
+        self
+    }
+
+    // One read that takes p: tape a gives variable v a record, so that the values get the pattern of the wish.
+    #[tactic(auto, using(crate::proofs::ChoiceLaws::chosen_safe))]
+    pub fn read(self, row: &mut [i32], lo: i32, hi: i32, wish: Values, a: usize, v: usize) -> Self
+        requires { Ready self a v row.old × Movable lo × Movable hi }
+        ensures { (result ≡ walk_after (chosen lo hi wish self.values v) a v self)
+            × (row.new ≡ row_after (chosen lo hi wish self.values v) a self row.old) }
+    {
+        let choice = Choice::new(lo, hi, wish, self.values, v);
+        self.add_record(row, a, v, choice)
     }
 }
 
-// One read that takes p: tape a gives variable v a record, so that the values get the pattern of the wish.
-pub fn read_one(
-    row: &mut [i32],
-    walk: Walk,
-    lo: i32,
-    hi: i32,
-    wish: Values,
-    a: usize,
-    v: usize,
-) -> Walk
-    requires { Ready walk a v row.old × Movable lo × Movable hi }
-    ensures { (result ≡ walk_after (chosen lo hi wish walk.values v) a v walk)
-        × (row.new ≡ row_after (chosen lo hi wish walk.values v) a walk row.old) }
+// The lengths together, or the cap if they reach it.
+#[tactic(auto, using(crate::proofs::Spans::total_take), unfolding(model::specs::Tapes::total))]
+fn capped(lengths: &[usize], cap: usize) -> usize
+    ensures { result ≡ min (total lengths.now) cap }
 {
-    let values = walk.values;
-    let choice = choices::choice_for(lo, hi, wish, values, v);
-    add_record(row, walk, a, v, choice)
-}
-
-// The first n lengths together, or the cap if they reach it. No sum passes the cap.
-fn capped(lengths: &[usize], n: usize, cap: usize) -> usize
-    requires { n ≤ length lengths.now }
-    ensures { result ≡ min (total (take n lengths.now)) cap }
-{
-    let mut sum = 0;
-    let mut i = 0;
-    while i < n {
-        let x = lengths[i];
-        if cap - sum <= x {
-            return cap;
-        }
-        sum += x;
-        i += 1;
+    let mut sum: usize = 0;
+    for x in lengths {
+        sum = sum.saturating_add(*x).min(cap);
     }
     sum
 }
 
 // Where the part of the row that holds the records of one tape, counted from 1, starts, and how many it holds.
+#[tactic(auto, using(crate::proofs::Spans::total_le), unfolding(crate::specs::Part::span_of))]
 pub fn span_of(row: &[i32], lengths: &[usize], tape: usize) -> Span
     ensures { result ≡ span_of lengths.now tape (length row.now) }
 {
     let nothing = Span { start: 0, count: 0 };
-    if tape == 0 {
-        return nothing;
-    }
-    if lengths.len() < tape {
+    if tape == 0 || lengths.len() < tape {
         return nothing;
     }
     let cap = row.len() + 1;
-    let all = capped(lengths, lengths.len(), cap);
+    let all = capped(lengths, cap);
     if row.len() < all {
         return nothing;
     }
     let a = tape - 1;
-    let count = lengths[a];
-    let start = capped(lengths, a, cap);
-    Span { start, count }
+    Span {
+        start: capped(&lengths[..a], cap),
+        count: lengths[a],
+    }
 }
 
 // The part of the row that holds the records of one tape, counted from 1.
+#[tactic(auto, using(crate::proofs::Spans::span_fits))]
 pub fn tape_records<'a>(row: &'a [i32], lengths: &[usize], tape: usize) -> &'a [i32]
     ensures { IsPart (span_of lengths.now tape (length row.now)) row.now row.entry.ref_ptr result.now result.ref_ptr }
 {
-    let span = span_of(row, lengths, tape);
-    let s = span.start;
-    let e = s + span.count;
-    &row[s..e]
+    let Span { start, count } = span_of(row, lengths, tape);
+    &row[start..start + count]
 }

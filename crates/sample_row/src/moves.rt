@@ -1,81 +1,75 @@
 // Records and values moved one outward.
 ghost use Rattle.std.specs.Prelude.{◌≡◌, map, ◌+◌, ◌≤◌, length, take, drop};
-ghost use Rattle.sample_row.specs.Inner.Moves.{further as further_of, outward as outward_of, moved, Movable};
-ghost use Rattle.sample_row.specs.Inner.Layout.{tapes_at, on_part, on_parts, Apart};
+ghost use Rattle.sample_row.specs.Inner.Moves.{further, outward, moved, Movable};
+ghost use Rattle.sample_row.specs.Inner.Layout.{on_part, on_parts, Apart};
+ghost use Rattle.sample_row.specs.Inner.Reading.{tapes_written};
 ghost use Rattle.model.specs.Inner.Lists.{All};
 
-use flow::Flow;
+use crate::{Direction, Walk};
 
-// Does y lie further out than x?
-pub fn further(up: bool, x: i32, y: i32) -> bool
-    ensures { result ≡ further_of up x y }
-{
-    if up {
-        return x < y;
+impl Direction {
+    // Does y lie further out than x?
+    pub(crate) fn further(self, x: i32, y: i32) -> bool
+        ensures { result ≡ further self x y }
+    {
+        match self {
+            Direction::Up => x < y,
+            Direction::Down => y < x,
+        }
     }
-    y < x
-}
 
-// The next number out. Below C1 a record is built by subtraction.
-pub fn outward(up: bool, x: i32) -> i32
-    requires { Movable x }
-    ensures { result ≡ outward_of up x }
-{
-    if up {
-        return x + 1;
+    // The next number out. Below C1 a record is built by subtraction.
+    pub(crate) fn outward(self, x: i32) -> i32
+        requires { Movable x }
+        ensures { result ≡ outward self x }
+    {
+        match self {
+            Direction::Up => x + 1,
+            Direction::Down => x - 1,
+        }
     }
-    x - 1
-}
 
-// x, moved if it lies further out than m.
-fn moved_one(up: bool, m: i32, x: i32) -> i32
-    requires { Movable x }
-    ensures { result ≡ moved up m x }
-{
-    if further(up, m, x) {
-        return outward(up, x);
+    // x, moved if it lies further out than m.
+    #[tactic(auto, unfolding(crate::specs::Inner::Moves::moved))]
+    fn moved(self, m: i32, x: i32) -> i32
+        requires { Movable x }
+        ensures { result ≡ moved self m x }
+    {
+        if self.further(m, x) {
+            self.outward(x)
+        } else {
+            x
+        }
     }
-    x
 }
 
 // Moves all numbers of a part, also those that no variable holds any more: else an earlier comparison could have another result.
-pub fn shift(part: &mut [i32], up: bool, m: i32)
+pub fn shift(part: &mut [i32], out: Direction, m: i32)
     requires { All Movable part.old }
-    ensures { part.new ≡ map (moved up m) part.old }
+    ensures { part.new ≡ map (moved out m) part.old }
 {
-    let mut i = 0;
-    while i < part.len() {
-        let x = part[i];
-        part[i] = moved_one(up, m, x);
-        i += 1;
+    for x in part.iter_mut() {
+        *x = out.moved(m, *x);
     }
 }
 
 // The k records of the part that starts at s.
-fn shift_part(row: &mut [i32], s: usize, k: usize, up: bool, m: i32)
+fn shift_part(row: &mut [i32], s: usize, k: usize, out: Direction, m: i32)
     requires { (s + k ≤ length row.old) × All Movable (take k (drop s row.old)) }
-    ensures { row.new ≡ on_part (moved up m) s k row.old }
+    ensures { row.new ≡ on_part (moved out m) s k row.old }
 {
-    let e = s + k;
-    shift(&mut row[s..e], up, m);
+    shift(&mut row[s..s + k], out, m);
 }
 
-// The records of all tapes.
-pub fn shift_all(
-    row: &mut [i32],
-    starts: [usize; Flow::TAPES],
-    counts: [usize; Flow::TAPES],
-    up: bool,
-    m: i32,
-)
-    requires { Apart 0 starts counts (length row.old) × All (All Movable) (tapes_at starts counts row.old) }
-    ensures { row.new ≡ on_parts (moved up m) starts counts row.old }
-{
-    let mut a = 0;
-    while a < Flow::TAPES {
-        let s = starts[a];
-        let k = counts[a];
-        shift_part(row, s, k, up, m);
-        a += 1;
+impl Walk {
+    // The records of all tapes.
+    #[tactic(auto, using(crate::proofs::Parts::parts_short))]
+    pub(crate) fn shift_records(self, row: &mut [i32], out: Direction, m: i32)
+        requires { Apart 0 self.starts self.counts (length row.old) × All (All Movable) (tapes_written self row.old) }
+        ensures { row.new ≡ on_parts (moved out m) self.starts self.counts row.old }
+    {
+        for (s, k) in self.starts.iter().zip(self.counts.iter()) {
+            shift_part(row, *s, *k, out, m);
+        }
     }
 }

@@ -6,6 +6,7 @@ use mathlib.Core.List.{List}
 use Prim.Native.Nat.{ℕ, suc, ◌+◌, ◌<◌, ◌≤◌}
 use native.Mathlib.Omega.{arith}
 use lib.IntN.{ℤ}
+use Rattle.std.specs.Prelude.{Option, Some, None}
 use lib.ListN.{length, get_or}
 use Rattle.graph.specs.Lists.{MoreThan}
 use Rattle.graph.specs.Inner.Graph.{Reached}
@@ -43,9 +44,6 @@ use Rattle.search_visit.specs.Inner.Fan.{Marked, SearchReady, LeadsTo, opens_by,
 use Rattle.search_table.specs.Inner.Passes.{blank, Prepared, Stands}
 use Rattle.search_table.proofs.ReachedPlaces.{path-stands}
 use Rattle.search.specs.Inner.Search.{LeadsAt, ExpandedIs, Exploring, Finished, SearchedIs}
-use Rattle.search.specs.declared.Searched.{Searched}
-use Rattle.search_visit.specs.declared.Grown.{Grown}
-use Rattle.search_visit.specs.declared.Grown.TheVariants.{To, Full}
 use Rattle.search_visit.proofs.Growing.{outgrown_wider, kept-none}
 use Rattle.search_visit.proofs.Visiting.{node-words}
 use Rattle.search_visit.proofs.Marks.{true_false}
@@ -76,13 +74,13 @@ entry-room c ready l = omega (arith, filled-room c ready.filled, ready.filled.in
 -- ---- what `settle` and `expand` answer
 -- the steps cost something else
 pub expand_none : {w : ℕ} (op : Op) (x : Words) {r : Rows} {count cells : ℕ} (d k : ℕ) {cost : ℕ} → SearchReady w r count cells
-    → (weight_of op ≡ cost → ⊥) → GrownIs (LeadsAt w op cost x) (LeadsAt w op cost x) w r r count cells d k (To count)
+    → (weight_of op ≡ cost → ⊥) → GrownIs (LeadsAt w op cost x) (LeadsAt w op cost x) w r r count cells d k (Some count)
 unfolding GrownIs
 expand_none op x d k ready other = (kept-none ready.filled (λ z a. other (sym (edge-weight a.1) ∙ a.2)), ready.marked)
 
 -- no step that costs nothing leads away
 pub settle_none : {w : ℕ} (op : Op) {r : Rows} {count cells i : ℕ} → SearchReady w r count cells → i < count → goes_on_of op ≡ false
-    → ExpandedIs w op r r count cells i 0 (To count)
+    → ExpandedIs w op r r count cells i 0 (Some count)
 unfolding GrownIs table_of
 settle_none op {i = i} ready l still = (
   record { filled = ready.filled; grows = none; all = λ z a. record { at = i; below = l; is = sym (free_stays still a.1 a.2) } },
@@ -93,16 +91,16 @@ settle_none op {i = i} ready l still = (
 all-at : {w : ℕ} {op : Op} {x : Words} {cost : ℕ} → weight_of op ≡ cost → (y : Words) → LeadsTo w op x y → LeadsAt w op cost x y
 all-at same y (e, edge) = (e, edge, edge-weight edge ∙ same)
 
-pub expand_every : (w : ℕ) (op : Op) (x : Words) (r r' : Rows) (count cells d k : ℕ) {cost : ℕ} → weight_of op ≡ cost → (g : Grown)
+pub expand_every : (w : ℕ) (op : Op) (x : Words) (r r' : Rows) (count cells d k : ℕ) {cost : ℕ} → weight_of op ≡ cost → (g : Option ℕ)
     → GrownIs (LeadsTo w op x) (LeadsTo w op x) w r r' count cells d k g
     → GrownIs (LeadsAt w op cost x) (LeadsAt w op cost x) w r r' count cells d k g
 unfolding GrownIs
-expand_every w op x r r' count cells d k same (To n) (kept, marks) =
+expand_every w op x r r' count cells d k same (Some n) (kept, marks) =
     (record { filled = kept.filled; grows = grows-wider (all-at same) kept.grows; all = λ y a. kept.all y (a.0, a.1) }, marks)
-expand_every w op x r r' count cells d k same Full o = outgrown_wider (all-at same) o
+expand_every w op x r r' count cells d k same None o = outgrown_wider (all-at same) o
 
 -- by the words and the distance that were read
-pub expanded_by : (w : ℕ) (op : Op) (r r' : Rows) (count cells k cost : ℕ) (g : Grown) {x : Words} {d : ℕ}
+pub expanded_by : (w : ℕ) (op : Op) (r r' : Rows) (count cells k cost : ℕ) (g : Option ℕ) {x : Words} {d : ℕ}
     → GrownIs (LeadsAt w op cost x) (LeadsAt w op cost x) w r r' count cells d k g → x ≡ words_at (entries_of r) k
     → d ≡ distance_of (entries_of r) k + cost → ExpandedIs w op r r' count cells k cost g
 expanded_by w op r r' count cells k cost g is same far =
@@ -220,6 +218,6 @@ pub marks-room : (c c₁ : List (List ℕ)) (size : ℕ) → size ≡ cells_of c
 marks-room c c₁ size e same = omega (arith, e, same, length-column marks_field c₁)
 
 -- a search of the cells that there are is a search of the row
-pub of_all_cells : (lo : ℤ) (w : ℕ) (flow : Flow) (r : Rows) (a b : ℕ) (v : Searched) → a ≡ b → SearchedIs lo w flow r a v
+pub of_all_cells : (lo : ℤ) (w : ℕ) (flow : Flow) (r : Rows) (a b : ℕ) (v : Option ℕ) → a ≡ b → SearchedIs lo w flow r a v
     → SearchedIs lo w flow r b v
 of_all_cells lo w flow r a b v e = subst (λ (n : ℕ). SearchedIs lo w flow r n v) e

@@ -7,25 +7,20 @@ use native.Mathlib.Decide.{ℕ_discrete}
 use native.Mathlib.Omega.{arith}
 use lib.ListN.{get_or}
 use lib.Dec.{eqb}
+use Rattle.std.specs.Prelude.{Option, Some, None, MatchOption}
 use borrow.Author.Tests.{eq-eqb, ne_eqb}
 use Rattle.graph.proofs.Wanted.{none_more}
-use Rattle.graph.specs.Inner.Table.{NoneBefore}
-use Rattle.model.specs.Machine.{Exit, p_exit, m_exit, exit_if}
+use Rattle.model.specs.Machine.{Exit, p_exit, m_exit}
 use Rattle.configuration.specs.Inner.Place.{words, at_of}
 use Rattle.configuration.specs.Inner.Step.{weight_of, takes_of}
 use Rattle.configuration.specs.declared.Op.{Op}
 use Rattle.configuration.proofs.WordExits.{free_takes}
 use Rattle.configuration.specs.declared.Words.{Words}
-use Rattle.cells.specs.declared.Found.TheVariants.{At, Nothing}
 use Rattle.search_table.specs.Inner.Passes.{takes_at, FirstIs, Listed, unmet, met}
 
 -- ---- words that are an entry's
 pub exit-words : (w : ℕ) (op : Op) (e : Exit) {b : Bool} {x y : Words} → b ≡ takes_of w op x e → x ≡ y → b ≡ takes_of w op y e
 exit-words w op e is same = is ∙ ap (λ (z : Words). takes_of w op z e) same
-
-pub takes-words : (w i : ℕ) (op : Op) (e : Exit) {b : Bool} {x y : Words} → b ≡ (eqb (at_of x.place) i && takes_of w op x e) → x ≡ y
-    → b ≡ (eqb (at_of y.place) i && takes_of w op y e)
-takes-words w i op e is same = is ∙ ap (λ (z : Words). eqb (at_of z.place) i && takes_of w op z e) same
 
 -- ---- the number listed for one exit; b says whether entry k takes it
 keep : (b : Bool) (c d r : ℕ) → 0 < c → r ≡ cond (b && eqb c 0) d c → r ≡ c
@@ -35,27 +30,20 @@ keep b c d r l q = q ∙ by b
     by true = rw (ne_eqb c 0 (λ e. omega arith))
     by false = refl
 
--- what the code keeps for one exit
-pub kept_new : (b : Bool) (c d : ℕ) → b ≡ true → c ≡ 0 → d ≡ cond (b && eqb c 0) d c
-kept_new b c d h e = sym (ap (λ (t : Bool). cond (t && eqb c 0) d c) h ∙ ap (λ (t : Bool). cond t d c) (eq-eqb c 0 e))
-
-pub kept-old : (b : Bool) (c d : ℕ) → (c ≡ 0 → ⊥) → c ≡ cond (b && eqb c 0) d c
+kept-old : (b : Bool) (c d : ℕ) → (c ≡ 0 → ⊥) → c ≡ cond (b && eqb c 0) d c
 kept-old b c d h = sym (keep b c d _ (omega arith) refl)
 
 kept_free : (b : Bool) (c d : ℕ) → b ≡ false → c ≡ cond (b && eqb c 0) d c
 kept_free b c d h = sym (ap (λ (t : Bool). cond (t && eqb c 0) d c) h)
 
 -- ---- whether an exit is left to list; n is what the steps weigh
-pub unlisted_free : (n : ℕ) (t : Bool) → n ≡ 0 → false ≡ (not (eqb n 0) && t)
-unlisted_free n t e = sym (ap (λ (b : Bool). not b && t) (eq-eqb n 0 e))
-
 weighing : (n : ℕ) (t : Bool) → (n ≡ 0 → ⊥) → t ≡ (not (eqb n 0) && t)
 weighing n t h = sym (ap (λ (b : Bool). not b && t) (ne_eqb n 0 h))
 
-pub unlisted_p : (n p : ℕ) (t : Bool) → (n ≡ 0 → ⊥) → p ≡ 0 → true ≡ (not (eqb n 0) && (eqb p 0 || t))
+unlisted_p : (n p : ℕ) (t : Bool) → (n ≡ 0 → ⊥) → p ≡ 0 → true ≡ (not (eqb n 0) && (eqb p 0 || t))
 unlisted_p n p t h e = ap (λ (b : Bool). b || t) (sym (eq-eqb p 0 e)) ∙ weighing n _ h
 
-pub unlisted_m : (n p : ℕ) (t : Bool) → (n ≡ 0 → ⊥) → (p ≡ 0 → ⊥) → t ≡ (not (eqb n 0) && (eqb p 0 || t))
+unlisted_m : (n p : ℕ) (t : Bool) → (n ≡ 0 → ⊥) → (p ≡ 0 → ⊥) → t ≡ (not (eqb n 0) && (eqb p 0 || t))
 unlisted_m n p t h e = ap (λ (b : Bool). b || t) (sym (ne_eqb p 0 e)) ∙ weighing n _ h
 
 -- none is left: both numbers stay
@@ -97,23 +85,10 @@ module _ (w : ℕ) (places patterns : List ℕ) (op : Op) (e : Exit) (k : ℕ) w
   unfolding takes_at
   takes_elsewhere i h = ap (λ (t : Bool). t && taken) (ne_eqb (at_of (get_or places k 0)) i h)
 
--- what the code tells of one entry
-pub takes_not : (a at i : ℕ) (b : Bool) → a ≡ at → (a ≡ i → ⊥) → false ≡ (eqb at i && b)
-takes_not a at i b here h = sym (ap (λ (t : Bool). t && b) (ne_eqb at i (λ e. h (here ∙ e))))
-
-pub takes_told : (w : ℕ) (op : Op) (x : Words) (a i : ℕ) (b exit : Bool) (e : Exit) → a ≡ at_of x.place → a ≡ i → exit_if exit ≡ e
-    → b ≡ takes_of w op x e → b ≡ (eqb (at_of x.place) i && takes_of w op x (exit_if exit))
-takes_told w op x a i b exit e here there is h =
-    h ∙ ap (takes_of w op x) (sym is) ∙ sym (ap (λ (t : Bool). t && takes_of w op x (exit_if exit)) (eq-eqb (at_of x.place) i (sym here ∙ there)))
-
--- ---- the first entry; r says whether entry k takes the exit
-pub first_found : {takes : ℕ → Bool} {n k : ℕ} {r : Bool} → k < n → NoneBefore takes k → r ≡ takes k → r ≡ true → FirstIs takes n (At k)
+-- ---- the first entry, as a search over the range of the entries finds it
+pub first_by : (takes : ℕ → Bool) (n : ℕ) (r : Option ℕ)
+    → MatchOption r ((k : ℕ) → 0 ≤ k → k < n → takes k ≡ false) (λ i. (0 ≤ i) × (i < n) × (takes i ≡ true) × ((k : ℕ) → 0 ≤ k → k < i → takes k ≡ false))
+    → FirstIs takes n r
 unfolding FirstIs
-first_found l h e t = record { below = l; takes_it = sym e ∙ t; before = h }
-
-pub none_past : {takes : ℕ → Bool} (k : ℕ) {r : Bool} → NoneBefore takes k → r ≡ takes k → r ≡ false → NoneBefore takes (k + 1)
-none_past k h e t = none_more _ k h (sym e ∙ t)
-
-pub first-none : {takes : ℕ → Bool} {n : ℕ} (k : ℕ) → n ≤ k → NoneBefore takes k → FirstIs takes n Nothing
-unfolding FirstIs
-first-none k l h j m t = h j (omega arith) t
+first_by takes n (Some i) (a, l, t, f) = record { below = l; takes_it = t; before = λ j m e. true≢false (sym e ∙ f j (omega arith) m) }
+first_by takes n None f = λ j m e. true≢false (sym e ∙ f j (omega arith) m)

@@ -18,29 +18,9 @@ use Rattle.search_table.specs.Inner.Way.{Passable, place_on, op_on, is_read, cou
 
 -- the entry at place t of a way is there
 pub on_way : (c : List (List ℕ)) {last : ℕ} → Passable (word_column place_field c) (column way_field c) last → (t : ℕ) → t ≤ last
-    → (t < length c) × (get_or (column way_field c) t 0 < length c)
-on_way c p t l = (omega (arith, p.room, length-column way_field c), omega (arith, p.entry t l, length-word-column place_field c))
-
--- ---- one step, as the code counts it; b says whether op is a read
-module _ (counts : List ℕ) (op : Op) (b taken : Bool) (is : b ≡ is_read op.action) where
-  pub counted_plain : b ≡ false → counts ≡ counted_of counts op taken
-  unfolding counted_of
-  counted_plain h = let r : is_read op.action ≡ false = sym is ∙ h in rw r
-
-  pub counted_none : taken ≡ false → counts ≡ counted_of counts op taken
-  unfolding counted_of
-  counted_none h = by (is_read op.action)
-    where
-      by : (r : Bool) → counts ≡ cond (r && taken) (set counts op.tape (get_or counts op.tape 0 + 1)) counts
-      by true = rw h
-      by false = refl
-
-  pub counted-one : b ≡ true → taken ≡ true → set counts op.tape (get_or counts op.tape 0 + 1) ≡ counted_of counts op taken
-  unfolding counted_of
-  counted-one h k = let r : is_read op.action ≡ true = sym is ∙ h in rw (r, k)
-
-  pub counted_past : b ≡ true → taken ≡ true → length counts ≤ op.tape → counts ≡ counted_of counts op taken
-  counted_past h k l = sym (set_out counts op.tape (get_or counts op.tape 0 + 1) l) ∙ counted-one h k
+    → record { t_in_bounds : t < length c; t_in_bounds_2 : get_or (column way_field c) t 0 < length c }
+on_way c p t l =
+    record { t_in_bounds = omega (arith, p.room, length-column way_field c); t_in_bounds_2 = omega (arith, p.entry t l, length-word-column place_field c) }
 
 -- ---- what a step does to the counts
 module _ (counts : List ℕ) (op : Op) (taken : Bool) where

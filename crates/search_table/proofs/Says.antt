@@ -24,9 +24,8 @@ use Rattle.configuration.specs.declared.Op.{Op}
 use Rattle.configuration.specs.declared.Words.{Words}
 use Rattle.configuration.proofs.Reaches.{Finds, distance_of-words, none_of_words}
 use Rattle.configuration.specs.Inner.Fits.{FlowFits}
+use Rattle.std.specs.Prelude.{Option, Some, None}
 use Rattle.cells.specs.Inner.Entries.{Entries, distance_of}
-use Rattle.cells.specs.declared.Found.{Found}
-use Rattle.cells.specs.declared.Found.TheVariants.{At, Nothing}
 use Rattle.search_table.specs.Inner.Table.{words_at, table_of, Complete}
 use Rattle.model.specs.Language.{has_exits}
 use Rattle.model.specs.Distance.{Says}
@@ -88,31 +87,31 @@ module _ {lo hi : ℤ} {w : ℕ} {flow : Flow} (f : FlowFits lo hi w flow) {e : 
 -- what `nearest` finds of an exit
 module _ {lo hi : ℤ} {w : ℕ} {flow : Flow} (f : FlowFits lo hi w flow) {e : Entries} {n : ℕ} (t : Complete lo w flow e n) (i : ℕ) (x : Exit) (op : Op)
     (prepared : op ≡ op_of lo (instruction flow i)) where
-  abbrev found : Found → Type 0
+  abbrev found : Option ℕ → Type 0
   found r = FirstIs (takes_at w e.places e.patterns op i x) n r
 
-  moved : (r : Found) → found r → FirstIs (takes_at w e.places e.patterns (op_of lo (instruction flow i)) i x) n r
+  moved : (r : Option ℕ) → found r → FirstIs (takes_at w e.places e.patterns (op_of lo (instruction flow i)) i x) n r
   moved r h = subst (λ (o : Op). FirstIs (takes_at w e.places e.patterns o i x) n r) prepared h
 
-  pub found_distance : (k : ℕ) → found (At k) → Distance flow i x (suc (distance_of e k))
+  pub found_distance : (k : ℕ) → found (Some k) → Distance flow i x (suc (distance_of e k))
   unfolding FirstIs
-  found_distance k h = first-distance f t i x k (moved (At k) h)
+  found_distance k h = first-distance f t i x k (moved (Some k) h)
 
-  pub found_stored : (k : ℕ) → found (At k) → k < n
+  pub found_stored : (k : ℕ) → found (Some k) → k < n
   unfolding FirstIs
   found_stored k h = h.below
 
   -- the entry stands at the instruction and takes the exit
-  pub found_takes : (k : ℕ) → found (At k) → (at_of (words_at e k).place ≡ i) × (takes_of w op (words_at e k) x ≡ true)
+  pub found_takes : (k : ℕ) → found (Some k) → (at_of (words_at e k).place ≡ i) × (takes_of w op (words_at e k) x ≡ true)
   unfolding FirstIs takes_at
   found_takes k h =
       let y = words_at e k in
       let (p, q) = and_split (eqb (at_of y.place) i) (takes_of w op y x) h.takes_it in
       (eqb-true (at_of y.place) i p, q)
 
-  pub found_nothing : found Nothing → NoDistance flow i x
+  pub found_nothing : found None → NoDistance flow i x
   unfolding FirstIs
-  found_nothing h = none_no_distance f t i x (moved Nothing h)
+  found_nothing h = none_no_distance f t i x (moved None h)
 
 -- what a column of a finished table says of every instruction from 1 to 64
 pub column_says : {lo hi : ℤ} {w : ℕ} {flow : Flow} → FlowFits lo hi w flow → {e : Entries} {n : ℕ} → Complete lo w flow e n → {ops : List Op}

@@ -6,8 +6,6 @@
 ghost use Rattle.std.specs.Prelude.{◌≡◌, not, cond, ◌&&◌, ◌||◌, ◌+◌, ◌≤◌, ◌<◌, length, get_or, eqb};
 ghost use Rattle.model.specs.Machine.{p_exit, m_exit, exit_if};
 ghost use Rattle.flow.specs.Limits.{max_instructions};
-ghost use Rattle.outside_row.specs.Inner.Table.{IsTable};
-ghost use Rattle.pattern_word.specs.Inner.Pattern.{Width};
 ghost use Rattle.configuration.specs.Inner.Place.{at_of};
 ghost use Rattle.configuration.specs.Inner.Step.{weight_of, takes_of};
 ghost use Rattle.pattern_word.specs.Inner.Digits.{Below};
@@ -15,14 +13,15 @@ ghost use Rattle.cells.specs.Inner.Columns.{place_field, pattern_field, distance
 ghost use Rattle.cells.specs.Inner.Entries.{entries_of};
 ghost use Rattle.search_table.specs.Inner.Table.{words_at};
 ghost use Rattle.search_table.specs.Inner.Passes.{Stands, Walkable, takes_at, FirstIs, ExitsOf};
-ghost use Rattle.search_table.specs.Inner.Way.{place_on, Passable, is_read, counted_of, reads_on};
+ghost use Rattle.search_table.specs.Inner.Way.{place_on, Passable, counted_of, reads_on};
 
-use cells::{Cell, Found};
+use cells::Cell;
 use configuration::{Action, Op, Words, place};
 use flow::Flow;
+use pattern_word::Coding;
 
 // The distances of the exits p and m of every instruction, that of instruction i at i - 1; 0 for none.
-#[derive(Clone, Copy)]
+#[derive(Clone, Copy, Debug, PartialEq, Eq)]
 pub struct Distances {
     pub p: [u32; Flow::MAX_INSTRUCTIONS],
     pub m: [u32; Flow::MAX_INSTRUCTIONS],
@@ -51,28 +50,21 @@ pub fn index(place: u64) -> usize
 fn kept(cell: u32, taken: bool, d: u32) -> u32
     ensures { result ≡ cond (taken && eqb cell 0) d cell }
 {
-    if taken {
-        if cell == 0 {
-            return d;
-        }
-    }
-    cell
+    if taken && cell == 0 { d } else { cell }
 }
 
 // What is listed for the two exits of one instruction.
-#[derive(Clone, Copy)]
+#[derive(Clone, Copy, Debug, PartialEq, Eq)]
 struct Numbers {
     p: u32,
     m: u32,
 }
 
 // The numbers listed for the exits of an instruction after its entry x, at distance d - 1.
-fn list_exits(table: &[u16], p: u32, m: u32, op: Op, w: u64, x: Words, d: u32) -> Numbers
-    requires table { IsTable table.now }
-    requires width { Width w }
-    ensures { (result.p ≡ cond (takes_of w op x p_exit && eqb p 0) d p) × (result.m ≡ cond (takes_of w op x m_exit && eqb m 0) d m) }
+fn list_exits(coding: &Coding, p: u32, m: u32, op: Op, x: Words, d: u32) -> Numbers
+    ensures { (result.p ≡ cond (takes_of coding.now.w op x p_exit && eqb p 0) d p) × (result.m ≡ cond (takes_of coding.now.w op x m_exit && eqb m 0) d m) }
 {
-    let taken = configuration::exits_of(table, op, w, x);
+    let taken = configuration::exits_of(coding, op, x);
     Numbers {
         p: kept(p, taken.p, d),
         m: kept(m, taken.m, d),
@@ -83,118 +75,71 @@ fn list_exits(table: &[u16], p: u32, m: u32, op: Op, w: u64, x: Words, d: u32) -
 fn unlisted(op: Op, p: u32, m: u32) -> bool
     ensures { result ≡ (not (eqb (weight_of op) 0) && (eqb p 0 || eqb m 0)) }
 {
-    if configuration::weight(op) == 0 {
-        return false;
-    }
-    if p == 0 {
-        return true;
-    }
-    m == 0
+    configuration::weight(op) != 0 && (p == 0 || m == 0)
 }
 
 // The distances of all exits. An entry at which none is left to list is not looked into.
 pub fn exits(
     cells: &[[u32; Cell::WORDS]],
-    table: &[u16],
+    coding: &Coding,
     n: usize,
     ops: [Op; Flow::MAX_INSTRUCTIONS],
-    w: u64,
 ) -> Distances
-    requires table { IsTable table.now }
-    requires width { Width w }
-    requires walkable { Walkable (word_column place_field cells.now) (word_column pattern_field cells.now) (column distance_field cells.now) n }
-    ensures { ExitsOf w (word_column place_field cells.now) (word_column pattern_field cells.now) (column distance_field cells.now) n ops result }
+    requires { Walkable (word_column place_field cells.now) (word_column pattern_field cells.now) (column distance_field cells.now) n }
+    ensures { ExitsOf coding.now.w (word_column place_field cells.now) (word_column pattern_field cells.now) (column distance_field cells.now) n ops result }
 {
     let mut p: [u32; Flow::MAX_INSTRUCTIONS] = [0; Flow::MAX_INSTRUCTIONS];
     let mut m: [u32; Flow::MAX_INSTRUCTIONS] = [0; Flow::MAX_INSTRUCTIONS];
-    let mut k = 0;
-    while k < n {
+    for k in 0..n {
         let i = index(cells::word(cells, k, Cell::PLACE));
         let op = ops[i];
         if unlisted(op, p[i], m[i]) {
             let d = cells::get(cells, k, Cell::DISTANCE) + 1;
-            let listed = list_exits(table, p[i], m[i], op, w, words_at(cells, k), d);
+            let listed = list_exits(coding, p[i], m[i], op, words_at(cells, k), d);
             p[i] = listed.p;
             m[i] = listed.m;
         }
-        k += 1;
     }
     Distances { p, m }
 }
 
 // Whether words stand at the instruction, prepared as op, and can take the exit, p if `exit`.
-fn takes(table: &[u16], x: Words, op: Op, w: u64, instruction: usize, exit: bool) -> bool
-    requires table { IsTable table.now }
-    requires width { Width w }
-    ensures { result ≡ (eqb (at_of x.place) instruction && takes_of w op x (exit_if exit)) }
+fn takes(coding: &Coding, x: Words, op: Op, instruction: usize, exit: bool) -> bool
+    ensures { result ≡ (eqb (at_of x.place) instruction && takes_of coding.now.w op x (exit_if exit)) }
 {
     if place::at(x.place) != instruction {
         return false;
     }
-    let taken = configuration::exits_of(table, op, w, x);
-    if exit {
-        return taken.p;
-    }
-    taken.m
+    let taken = configuration::exits_of(coding, op, x);
+    if exit { taken.p } else { taken.m }
 }
 
 // The first entry that stands at the instruction, prepared as op, and takes the exit, p if `exit`: none is nearer.
 pub fn nearest(
     cells: &[[u32; Cell::WORDS]],
-    table: &[u16],
+    coding: &Coding,
     n: usize,
     op: Op,
-    w: u64,
     instruction: usize,
     exit: bool,
-) -> Found
-    requires table { IsTable table.now }
-    requires width { Width w }
-    requires n_in_bounds { n ≤ length cells.now }
-    ensures { FirstIs (takes_at w (word_column place_field cells.now) (word_column pattern_field cells.now) op instruction (exit_if exit)) n result }
+) -> Option<usize>
+    requires { n ≤ length cells.now }
+    ensures { FirstIs (takes_at coding.now.w (word_column place_field cells.now) (word_column pattern_field cells.now) op instruction (exit_if exit)) n result }
 {
-    let mut k = 0;
-    while k < n {
-        let x = words_at(cells, k);
-        if takes(table, x, op, w, instruction, exit) {
-            return Found::At(k);
-        }
-        k += 1;
-    }
-    Found::Nothing
-}
-
-// Whether an action is a read.
-pub fn is_read(action: Action) -> bool
-    ensures { result ≡ is_read action }
-{
-    match action {
-        Action::Read => true,
-        Action::Assign => false,
-        Action::Test => false,
-        Action::Go => false,
-        Action::Stop => false,
-    }
+    (0..n).find(|k| takes(coding, words_at(cells, *k), op, instruction, exit))
 }
 
 // Counts the record, if any, that a step of op takes; `taken` if it takes exit p.
+#[tactic(auto, unfolding(crate::specs::Inner::Way::counted_of))]
 pub fn counted(counts: [u32; Flow::TAPES], op: Op, taken: bool) -> [u32; Flow::TAPES]
     requires { Below 4294967295 counts }
     ensures { result ≡ counted_of counts op taken }
 {
-    let action = op.action;
-    if !is_read(action) {
-        return counts;
-    }
-    if !taken {
-        return counts;
-    }
     let a = op.tape as usize;
-    if Flow::TAPES <= a {
-        return counts;
-    }
     let mut more = counts;
-    more[a] = more[a] + 1;
+    if matches!(op.action, Action::Read) && taken && a < Flow::TAPES {
+        more[a] += 1;
+    }
     more
 }
 
@@ -204,7 +149,7 @@ pub fn place_on(cells: &[[u32; Cell::WORDS]], t: usize) -> u64
     requires t_in_bounds_2 { get_or (column way_field cells.now) t 0 < length cells.now }
     ensures { result ≡ place_on (word_column place_field cells.now) (column way_field cells.now) t }
 {
-    let k = cells::wide(cells::get(cells, t, Cell::WAY));
+    let k = cells::get(cells, t, Cell::WAY) as usize;
     cells::word(cells, k, Cell::PLACE)
 }
 
@@ -219,12 +164,10 @@ pub fn reads(
     ensures { result ≡ reads_on ops (word_column place_field cells.now) (column way_field cells.now) last }
 {
     let mut counts: [u32; Flow::TAPES] = [0; Flow::TAPES];
-    let mut t = 0;
-    while t < last {
-        let i = index(place_on(cells, t));
-        let op = ops[i];
-        t += 1;
-        let ended = place::ended(place_on(cells, t), op.tape);
+    for t in 0..last {
+        let op = ops[index(place_on(cells, t))];
+        let ended = place::ended(place_on(cells, t + 1), op.tape);
+        // Kept: the check does not cover a call whose array goes straight into a variable of the loop.
         let more = counted(counts, op, !ended);
         counts = more;
     }

@@ -5,12 +5,13 @@ use mathlib.Core.Bool.{Bool, true, false, not}
 use mathlib.Core.List.{List}
 use mathlib.Core.Logic.{◌⊎◌, inl, inr}
 use mathlib.Core.Option.{some}
+use Rattle.std.specs.Prelude.{Option, Some, None, option_map}
 use Prim.Native.Nat.{ℕ, ◌+◌, ◌<◌, ◌≤◌}
 use native.Mathlib.Nat.{eq-or-lt_of_le}
 use native.Mathlib.Omega.{arith}
 use lib.ListN.{length}
 use Rattle.model.specs.Machine.{p_exit}
-use Rattle.pattern_word.specs.Inner.Pattern.{Width, lanes, low, values_of, assign_of, first_trial, last_trial}
+use Rattle.pattern_word.specs.Inner.Pattern.{lanes, low, values_of, assign_of, first_trial, last_trial}
 use Rattle.configuration.specs.Inner.Place.{words}
 use Rattle.configuration.specs.Inner.Step.{ended_of, next_of, take_of, member_of}
 use Rattle.pattern_word.specs.Inner.Span.{Trial}
@@ -25,20 +26,16 @@ use Rattle.cells.specs.Inner.Columns.{Rows}
 use Rattle.cells.specs.Inner.Entries.{Entries, entries_of, Filled}
 use Rattle.cells.specs.Inner.Marks.{is_marked, marking, Unmarked}
 use Rattle.search_table.specs.Inner.Table.{table_of}
-use Rattle.search_visit.specs.Inner.Visit.{Outgrown, Met, Kept, VisitedIs, grown_of}
+use Rattle.search_visit.specs.Inner.Visit.{Outgrown, Met, Kept, VisitedIs}
 use Rattle.search_visit.specs.Inner.Fan.{Member, MembersIs, Marked, FreshIs, SearchReady, LeadsTo, opens_by, opens_of, InFan, FanFits, GrownIs}
 use Rattle.search_visit.specs.declared.Visited.{Visited}
-use Rattle.search_visit.specs.declared.Visited.TheVariants.{At, Full as None}
-use Rattle.search_visit.specs.declared.Grown.{Grown}
-use Rattle.search_visit.specs.declared.Grown.TheVariants.{To, Full}
 use Rattle.graph.proofs.Table.{grows_extends, grows_then, grows-wider}
 use Rattle.search_visit.proofs.Growing.{outgrown_then, outgrown_wider, kept-none, kept_visit, outgrown_visit, met-count, kept-count}
-use Rattle.search_visit.proofs.Visiting.{visited_at, visited_full}
-use Rattle.search_visit.proofs.Marks.{true_false, fresh_at, marked-kept, marked_more}
+use Rattle.search_visit.proofs.Marks.{true_false, marked-kept, marked_more}
 use Rattle.graph.specs.Inner.Table.{Held}
 
 -- ---- a read that can find a record
-pub opens_by_lem : (op : Op) (x : Words) (a : Action) (b : Bool) → op.action ≡ a → b ≡ opens_by a op x → b ≡ opens_of op x
+opens_by_lem : (op : Op) (x : Words) (a : Action) (b : Bool) → op.action ≡ a → b ≡ opens_by a op x → b ≡ opens_of op x
 unfolding opens_of
 opens_by_lem op x a b e h = h ∙ ap (λ (a : Action). opens_by a op x) (sym e)
 
@@ -60,10 +57,6 @@ opens_read op x = go op.action refl
 read_opens : (op : Op) (x : Words) → op.action ≡ Read → ended_of x.place op.tape ≡ false → opens_of op x ≡ true
 read_opens op x e h = sym (opens_by_lem op x Read true e (ap not (sym h)))
 
--- by the answer of `opens`
-pub by_opens : (op : Op) (x : Words) {b t : Bool} → b ≡ opens_of op x → b ≡ t → opens_of op x ≡ t
-by_opens op x e h = sym e ∙ h
-
 -- ---- the members by the records from b up to the record before y
 abbrev pub Tried : (w v : ℕ) (f : Words) (b y : ℕ) (z : Words) → Type 0
 Tried w v f b y z = (u : ℕ) × (b ≤ u) × (u < y) × (member_of w v f u ≡ z)
@@ -73,7 +66,7 @@ pub record Bounds (w : ℕ) (f : Words) (b l : ℕ) : Type 0 where
   pub first : b ≡ first_trial (values_of w (lanes w f.pattern))
   pub last : l ≡ last_trial w (values_of w (lanes w f.pattern))
 
-pub bounds_trial : {w : ℕ} {f : Words} {b l : ℕ} → Bounds w f b l → (y : ℕ) → b ≤ y → y ≤ l → Trial w y
+bounds_trial : {w : ℕ} {f : Words} {b l : ℕ} → Bounds w f b l → (y : ℕ) → b ≤ y → y ≤ l → Trial w y
 bounds_trial {w} {f} k y lower upper = trial_fits w f.pattern y (omega (arith, k.first)) (omega (arith, k.last))
 
 module _ (w v : ℕ) (f : Words) (b : ℕ) {e₀ : Entries} {count cells d k : ℕ} where
@@ -234,88 +227,65 @@ module _ {w : ℕ} {op : Op} {x : Words} (fine : FanFits w op x) where
         either z (inl a) = inl a
         either z (inr s) = inr (s ∙ sym is)
 
--- ---- what growing has led to
-module _ (S All : Words → Type 0) (w : ℕ) (r r' : Rows) (count cells d k : ℕ) (g : Grown) (is : GrownIs S All w r r' count cells d k g) where
-  pub grown_to : {n : ℕ} → g ≡ To n
-      → Kept S All (entries_of r) (entries_of r') r'.heads r'.nexts count cells d k n × Marked w r'.fans (table_of (entries_of r') n)
-  unfolding GrownIs
-  grown_to q = subst (GrownIs S All w r r' count cells d k) q is
-
-  pub grown_full : g ≡ Full → Outgrown S d k (table_of (entries_of r) count) cells
-  unfolding GrownIs
-  grown_full q = subst (GrownIs S All w r r' count cells d k) q is
-
 -- ---- what `fan` answers
 module _ {w : ℕ} {op : Op} {x : Words} (fine : FanFits w op x) {r : Rows} {count cells : ℕ} (ready : SearchReady w r count cells) (d k : ℕ) where
-  abbrev FanIs : Rows → Grown → Type 0
+  abbrev FanIs : Rows → Option ℕ → Type 0
   FanIs r' g = GrownIs (LeadsTo w op x) (InFan w op x) w r r' count cells d k g
 
   -- no record can be found
-  pub shut_answer : opens_of op x ≡ false → FanIs r (To count)
+  pub shut_answer : opens_of op x ≡ false → FanIs r (Some count)
   unfolding GrownIs
   shut_answer s = (fan_shut fine s ready.filled, ready.marked)
 
-  module _ (o : opens_of op x ≡ true) {f' : Words} (q : f' ≡ take_of w op x low) (e₁ : Entries) (heads₁ nexts₁ : List ℕ) (s : Visited)
-      (visited : VisitedIs (entries_of r) e₁ heads₁ nexts₁ count cells d k f' s) where
+  module _ (o : opens_of op x ≡ true) {f' : Words} (q : f' ≡ take_of w op x low) where
     -- no cell is left for the first member
-    pub full-answer : s ≡ None → (r' : Rows) → FanIs r' Full
+    pub full-answer : Outgrown (λ z. z ≡ f') d k (table_of (entries_of r) count) cells → (r' : Rows) → FanIs r' None
     unfolding GrownIs
-    full-answer e r' = fan_first_full fine o q ready.filled (visited_full _ _ _ _ _ _ _ _ _ s visited e)
+    full-answer over r' = fan_first_full fine o q ready.filled over
 
-    module _ {i n : ℕ} (e : s ≡ At i n) where
-      met : Met (entries_of r) e₁ heads₁ nexts₁ count cells d k f' i n
-      met = visited_at _ _ _ _ _ _ _ _ _ s visited e
-
+    module _ {e₁ : Entries} {heads₁ nexts₁ : List ℕ} {i n : ℕ} (met : Met (entries_of r) e₁ heads₁ nexts₁ count cells d k f' i n) where
       -- the first member's mark has its place
       pub mark-room : (i < length r.fans) × (op.variable < 8)
       mark-room = (omega (arith, met.below, met.filled.index.within, ready.room), omega (arith, fan_lane fine o))
 
       -- the members can be visited
       pub first-ready : k < count
-          → Filled e₁ heads₁ nexts₁ n cells × (k < n) × Width w × (f'.pattern ≡ assign_of w f'.pattern op.variable low)
-      first-ready l = (met.filled, omega (arith, met-count met), fine.width, first_own fine o f' q)
+          → Filled e₁ heads₁ nexts₁ n cells × (k < n) × (f'.pattern ≡ assign_of w f'.pattern op.variable low)
+      first-ready l = (met.filled, omega (arith, met-count met), first_own fine o f' q)
 
       -- the fan is marked
-      pub marked-answer : (fans : List ℕ) → FreshIs r.fans fans count (grown_of s) → is_marked fans i op.variable ≡ true
-          → FanIs (record { places = e₁.places; patterns = e₁.patterns; distances = e₁.distances; parents = e₁.parents; heads = heads₁; nexts = nexts₁; fans = fans; buckets = e₁.buckets }) (To n)
+      pub marked-answer : (fans : List ℕ) → Unmarked r.fans fans count n → is_marked fans i op.variable ≡ true
+          → FanIs (record { places = e₁.places; patterns = e₁.patterns; distances = e₁.distances; parents = e₁.parents; heads = heads₁; nexts = nexts₁; fans = fans; buckets = e₁.buckets }) (Some n)
       unfolding GrownIs
-      marked-answer fans fresh is =
-          fan_marked fine o q ready.filled met r.fans fans ready.marked (fresh_at r.fans fans count s fresh e) is
+      marked-answer fans fresh is = fan_marked fine o q ready.filled met r.fans fans ready.marked fresh is
 
       -- the members are visited, with the mark set
-      pub members_answer : (fans₁ fans₂ : List ℕ) → FreshIs r.fans fans₁ count (grown_of s) → length fans₁ ≡ length r.fans
-          → fans₂ ≡ marking fans₁ i op.variable → (r' : Rows) (g : Grown) → FreshIs fans₂ r'.fans n g
+      pub members_answer : (fans₁ fans₂ : List ℕ) → Unmarked r.fans fans₁ count n → length fans₁ ≡ length r.fans
+          → fans₂ ≡ marking fans₁ i op.variable → (r' : Rows) (g : Option ℕ) → FreshIs fans₂ r'.fans n g
           → MembersIs w op.variable f' e₁ (entries_of r') r'.heads r'.nexts n cells d k g → FanIs r' g
       unfolding GrownIs MembersIs FreshIs
-      members_answer fans₁ fans₂ fresh long set r' (To m) fresh' kept =
-          fan_all fine o q ready.filled met kept r.fans fans₁ r'.fans ready.marked (fresh_at r.fans fans₁ count s fresh e)
+      members_answer fans₁ fans₂ fresh long set r' (Some m) fresh' kept =
+          fan_all fine o q ready.filled met kept r.fans fans₁ r'.fans ready.marked fresh
           (omega (arith, mark-room.0, long)) (subst (λ (l : List ℕ). Unmarked l r'.fans n m) set fresh')
-      members_answer fans₁ fans₂ fresh long set r' Full fresh' over = fan_full fine o q ready.filled met over
+      members_answer fans₁ fans₂ fresh long set r' None fresh' over = fan_full fine o q ready.filled met over
 
 -- ---- what `expand` answers
-module _ {w : ℕ} {op : Op} {x : Words} (fine : FanFits w op x) (r r' : Rows) (count cells d k : ℕ) (g : Grown)
-    (fanned : GrownIs (LeadsTo w op x) (InFan w op x) w r r' count cells d k g) where
+module _ {w : ℕ} {op : Op} {x : Words} (fine : FanFits w op x) (r r' : Rows) (count cells d k : ℕ) where
   -- no cell was left for the fan
-  pub fan_answer : g ≡ Full → (r'' : Rows) → GrownIs (LeadsTo w op x) (LeadsTo w op x) w r r'' count cells d k Full
+  pub fan_answer : GrownIs (LeadsTo w op x) (InFan w op x) w r r' count cells d k None → GrownIs (LeadsTo w op x) (LeadsTo w op x) w r r' count cells d k None
   unfolding GrownIs
-  fan_answer e r'' = grown_full _ _ w r r' count cells d k g fanned e
+  fan_answer over = over
 
-  module _ {n : ℕ} (e : g ≡ To n) where
+  module _ (n : ℕ) (fanned : GrownIs (LeadsTo w op x) (InFan w op x) w r r' count cells d k (Some n)) where
     -- the next words can be visited
     pub next-ready : k < count → Filled (entries_of r') r'.heads r'.nexts n cells × (k < n)
-    next-ready l = let kept = (grown_to _ _ w r r' count cells d k g fanned e).0 in (kept.filled, omega (arith, kept-count kept))
+    unfolding GrownIs
+    next-ready l = (fanned.0.filled, omega (arith, kept-count fanned.0))
 
     -- the next words are visited
-    pub next-answer : {y : Words} → y ≡ next_of w op x → (r'' : Rows) (s : Visited) → FreshIs r'.fans r''.fans n (grown_of s)
-        → VisitedIs (entries_of r') (entries_of r'') r''.heads r''.nexts n cells d k y s → {g' : Grown} → g' ≡ grown_of s
-        → GrownIs (LeadsTo w op x) (LeadsTo w op x) w r r'' count cells d k g'
-    unfolding GrownIs grown_of VisitedIs FreshIs
-    next-answer {y} is r'' s fresh visited e' = subst (GrownIs (LeadsTo w op x) (LeadsTo w op x) w r r'' count cells d k) (sym e') (go s fresh visited)
-      where
-        go : (s : Visited) → FreshIs r'.fans r''.fans n (grown_of s)
-            → VisitedIs (entries_of r') (entries_of r'') r''.heads r''.nexts n cells d k y s
-            → GrownIs (LeadsTo w op x) (LeadsTo w op x) w r r'' count cells d k (grown_of s)
-        go (At i m) fresh met =
-            expand_all fine (grown_to _ _ w r r' count cells d k g fanned e).0 y is met r'.fans r''.fans
-            (grown_to _ _ w r r' count cells d k g fanned e).1 fresh
-        go None fresh over = expand_full fine (grown_to _ _ w r r' count cells d k g fanned e).0 y is over
+    pub next-answer : {y : Words} → y ≡ next_of w op x → (r'' : Rows) (s : Option Visited) → FreshIs r'.fans r''.fans n (option_map (λ v. v.count) s)
+        → VisitedIs (entries_of r') (entries_of r'') r''.heads r''.nexts n cells d k y s
+        → GrownIs (LeadsTo w op x) (LeadsTo w op x) w r r'' count cells d k (option_map (λ v. v.count) s)
+    unfolding GrownIs VisitedIs FreshIs
+    next-answer {y} is r'' (Some s) fresh met = expand_all fine fanned.0 y is met r'.fans r''.fans fanned.1 fresh
+    next-answer {y} is r'' None fresh over = expand_full fine fanned.0 y is over

@@ -17,35 +17,15 @@ use Rattle.cells.specs.Inner.Entries.{entries_of}
 use Rattle.cells.specs.Inner.Marks.{is_marked, marking, Unmarked}
 use Rattle.cells.proofs.Marking.{mark_either, fresh_then}
 use Rattle.cells.proofs.Entering.{remarked}
-use Rattle.search_visit.specs.Inner.Visit.{VisitedIs, VisitedIn, grown_of}
-use Rattle.search_visit.specs.Inner.Fan.{Marked, FreshIs}
-use Rattle.search_visit.specs.declared.Visited.{Visited}
-use Rattle.search_visit.specs.declared.Visited.TheVariants.{At, Full as None}
-use Rattle.search_visit.specs.declared.Grown.TheVariants.{To, Full}
+use Rattle.search_visit.specs.Inner.Visit.{Met}
+use Rattle.search_visit.specs.Inner.Fan.{Marked}
 
 pub true_false : true ≡ false → ⊥
 true_false e = let z : ◌≡◌ {A = ℕ} 0 1 = cc in omega arith
 
--- ---- what visits leave
-pub fresh_to : (fans fans' : List ℕ) (count n : ℕ) → Unmarked fans fans' count n → FreshIs fans fans' count (To n)
-unfolding FreshIs
-fresh_to fans fans' count n f = f
-
--- a visit that met its words
-pub fresh_at : (fans fans' : List ℕ) (count : ℕ) (s : Visited) → FreshIs fans fans' count (grown_of s) → {i n : ℕ} → s ≡ At i n
-    → Unmarked fans fans' count n
-unfolding FreshIs grown_of
-fresh_at fans fans' count s f e = subst (λ (v : Visited). FreshIs fans fans' count (grown_of v)) e f
-
--- a visit that found no cell, after others
-pub fresh-full : (f g h : List ℕ) (count n : ℕ) (s : Visited) → count ≤ n → Unmarked f g count n → FreshIs g h n (grown_of s) → s ≡ None
-    → FreshIs f h count Full
-unfolding FreshIs grown_of
-fresh-full f g h count n s l p q e =
-    record {
-      old = (fresh_then f g h count n n l p (subst (λ (v : Visited). FreshIs g h n (grown_of v)) e q)).old;
-      new = λ i v a b. absurd (omega arith);
-    }
+-- ---- a visit that found no cell, after others
+pub fresh-full : (f g h : List ℕ) (count n : ℕ) → count ≤ n → Unmarked f g count n → Unmarked g h n n → Unmarked f h count count
+fresh-full f g h count n l p q = record { old = (fresh_then f g h count n n l p q).old; new = λ i v a b. absurd (omega arith) }
 
 -- ---- what a mark means
 -- in a table that has grown, by what it meant of the entries that were there
@@ -72,7 +52,8 @@ marked_more w fans fans' {t} {t'} g m i v room f whole =
     go j x l u tr (inr o) = held_kept g (m j x l o u tr)
 
 -- ---- a visit, and then a mark
-pub visited_marked : (c₀ c c' : List (List ℕ)) (count cells d k : ℕ) (y : Words) (s : Visited) → Only marks_field c c'
-    → VisitedIn c₀ c count cells d k y s → VisitedIn c₀ c' count cells d k y s
-visited_marked c₀ c c' count cells d k y s only =
-    remarked c c' only (λ (r : Rows). VisitedIs (entries_of (columns_of c₀)) (entries_of r) r.heads r.nexts count cells d k y s)
+pub met_marked : (c₀ c c' : List (List ℕ)) (count cells d k : ℕ) (y : Words) (i n : ℕ) → Only marks_field c c'
+    → Met (entries_of (columns_of c₀)) (entries_of (columns_of c)) (columns_of c).heads (columns_of c).nexts count cells d k y i n
+    → Met (entries_of (columns_of c₀)) (entries_of (columns_of c')) (columns_of c').heads (columns_of c').nexts count cells d k y i n
+met_marked c₀ c c' count cells d k y i n only =
+    remarked c c' only (λ (r : Rows). Met (entries_of (columns_of c₀)) (entries_of r) r.heads r.nexts count cells d k y i n)

@@ -1,21 +1,19 @@
 -- The report by the code's steps: what a plan is searched by, what a finished search gives, and what is answered.
 use mathlib.Core.Path.{◌≡◌, refl, sym, ap, ◌∙◌, subst, subst⁻¹}
-use mathlib.Core.Bool.{Bool, true}
+use mathlib.Core.Bool.{Bool, true, false}
 use mathlib.Core.List.{List, map}
 use Prim.Native.Nat.{ℕ, suc, ◌≤◌}
 use native.Mathlib.Omega.{arith}
 use lib.ListN.{length, get_or, take, replicate, length-map, get_or-map}
 use lib.Seq.{get_or-take, length-take-le}
 use Rattle.graph.proofs.Counting.{listed}
-use Rattle.model.specs.Language.{Instruction, stop, Flow, fields, C1, C2}
-use Rattle.model.specs.Machine.{p_exit, m_exit}
-use Rattle.model.specs.Distance.{Says}
+use Rattle.model.specs.Language.{Instruction, stop, Flow, fields, has_exits, C1, C2}
 use Rattle.flow.specs.Limits.{max_instructions}
-use Rattle.flow.specs.Read.{Checked, ok, fault, all, in_range, is_named, read_flow}
+use Rattle.std.specs.Prelude.{Option, Some, None, Result, is_err}
+use Rattle.flow.specs.Read.{all, in_range, is_named, read_flow}
 use Rattle.flow.specs.Code.{row_of}
 use Rattle.flow.specs.Legal.{Legal, head}
 use Rattle.flow.specs.declared.Refusal.{Refusal}
-use Rattle.flow.specs.declared.Refusal.TheVariants.{TooFewCells}
 use Rattle.flow.specs.declared.Flow.{Flow as FlowRows}
 use Rattle.flow.specs.Inner.Rows.{instruction_of, flow_of}
 use Rattle.configuration.specs.Inner.Op.{op_of}
@@ -36,11 +34,8 @@ use Rattle.search_table.proofs.Words.{outnumbered, complete-census, length-compl
 use Rattle.search_table.proofs.ReachedPlaces.{complete-walkable}
 use Rattle.search_table.proofs.Says.{column_says}
 use Rattle.search.specs.Inner.Search.{Subject, Finished, SearchedIs}
-use Rattle.search.specs.declared.Searched as Ends
-use Rattle.search.specs.declared.Searched.TheVariants.{Done, Full}
-use Rattle.tape_maker.specs.Report.{Outnumber, Count, Reported, refusal, FlowReport, ReportOf, ReportIs}
-use Rattle.tape_maker.specs.Inner.Plan.{AllFitBytes, Each, GivenIs, Planned, report_refused}
-use Rattle.tape_maker.specs.declared.ReportEnd.{ReportEnd}
+use Rattle.tape_maker.specs.Report.{Outnumber, Count, Reported, ReportOf, ReportIs}
+use Rattle.tape_maker.specs.Inner.Plan.{AllFitBytes, Each, Planned}
 use Rattle.tape_maker.specs.declared.ReportAnswer.{ReportAnswer}
 use Rattle.tape_maker.specs.declared.planning.Plan.{Plan}
 
@@ -63,20 +58,17 @@ rows-bytes held legal i l =
     (subst (λ (x : Instruction). all (is_named (length flow.instructions)) (fields x) ≡ true) is (legal.targets (suc i)))
 
 -- ---- what a search of a planned flow finds
-module _ {flow : Flow} {p : Plan} (plan : Planned flow p) where
-  fits : FlowFits (C1 flow) (C2 flow) p.w flow
-  fits = subst⁻¹ (λ (n : ℕ). FlowFits (C1 flow) (C2 flow) n flow) plan.width (fit-legal flow plan.legal)
+module _ {flow : Flow} {p : Plan} (plan : Planned flow p) {w : ℕ} (wide : w ≡ p.w) where
+  pub fits : FlowFits (C1 flow) (C2 flow) w flow
+  fits = subst⁻¹ (λ (n : ℕ). FlowFits (C1 flow) (C2 flow) n flow) (wide ∙ plan.width) (fit-legal flow plan.legal)
 
-  pub plan_wide : Width p.w
-  plan_wide = fits.span.width
-
-  abbrev subject : Subject p.w p.ops
+  abbrev subject : Subject w p.program.ops
   subject = record { lo = C1 flow; hi = C2 flow; flow = flow; legal = plan.legal; fit = fits; prepared = plan.prepared }
 
-  pub plan_subject : (s : Subject p.w p.ops) × (p.start ≡ start_of s.lo)
+  pub plan_subject : (s : Subject w p.program.ops) × (p.start ≡ start_of s.lo)
   plan_subject = (subject, plan.begins)
 
-  module _ {r : Rows} {cells n : ℕ} (f : Finished (C1 flow) p.w flow r cells n) where
+  module _ {r : Rows} {cells n : ℕ} (f : Finished (C1 flow) w flow r cells n) where
     pub finished-walkable : Walkable r.places r.patterns r.distances n
     finished-walkable =
         let i = f.filled.index in
@@ -88,72 +80,49 @@ module _ {flow : Flow} {p : Plan} (plan : Planned flow p) where
     pub finished-count : {m : ℕ} → n ≡ m → Count flow m
     finished-count e =
         record {
-          list = map (configuration_of (C1 flow) p.w flow) (listed (words_at (entries_of r)) n);
+          list = map (configuration_of (C1 flow) w flow) (listed (words_at (entries_of r)) n);
           census = complete-census fits f.complete;
           is = length-complete fits f.complete ∙ e;
         }
 
   -- the promise of a search
-  module _ (r : Rows) {cells : ℕ} {found : Ends.Searched}
-      (x : (s : Subject p.w p.ops) → p.start ≡ start_of s.lo → SearchedIs s.lo p.w s.flow r cells found) where
-    pub search_done : {n : ℕ} → found ≡ Done n → Finished (C1 flow) p.w flow r cells n
+  module _ (r : Rows) {cells : ℕ} {found : Option ℕ}
+      (x : (s : Subject w p.program.ops) → p.start ≡ start_of s.lo → SearchedIs s.lo w s.flow r cells found) where
+    pub search_done : {n : ℕ} → found ≡ Some n → Finished (C1 flow) w flow r cells n
     unfolding SearchedIs
-    search_done e = subst (λ (y : Ends.Searched). SearchedIs (C1 flow) p.w flow r cells y) e (x subject plan.begins)
+    search_done e = subst (λ (y : Option ℕ). SearchedIs (C1 flow) w flow r cells y) e (x subject plan.begins)
 
-    pub search_full : found ≡ Full → Outnumber flow cells
+    pub search_full : found ≡ None → Outnumber flow cells
     unfolding SearchedIs
-    search_full e = outnumbered fits cells (subst (λ (y : Ends.Searched). SearchedIs (C1 flow) p.w flow r cells y) e (x subject plan.begins))
+    search_full e = outnumbered fits cells (subst (λ (y : Option ℕ). SearchedIs (C1 flow) w flow r cells y) e (x subject plan.begins))
 
--- ---- what is answered for a legal flow
-module _ (held : FlowRows) {p : Plan} (plan : Planned (flow_of held) p) (few : held.count ≤ max_instructions) (cells : ℕ) (a : ReportAnswer) where
-  abbrev flow : Flow
-  flow = flow_of held
+pub plan_wide : {flow : Flow} {p : Plan} → Planned flow p → Width p.w
+plan_wide plan = (fits plan refl).span.width
 
-  -- a finished table gives the report
-  given_reported : {r : Rows} {n : ℕ} → Finished (C1 flow) p.w flow r cells n → (d : Distances)
-      → ExitsOf p.w r.places r.patterns r.distances n p.ops d → GivenIs held.instructions held.count n d a
-      → Reported flow cells a
-  unfolding flow_of
-  given_reported f d e g =
-      record {
-        instructions = g.instructions ∙ sym (length-take-le held.count held.instructions (omega (arith, few, g.long)))
-            ∙ sym (length-map (take held.count held.instructions) instruction_of);
-        count = finished-count plan f (sym g.configurations);
-        few = omega (arith, g.configurations, f.within);
-        two = λ i b. g.two.at i b;
-        p = λ i b. subst⁻¹ (λ (xs : List ℕ). Says flow (suc i) p_exit (get_or xs i 0)) g.p
-            (column_says (fits plan) f.complete plan.prepared e.p i b);
-        m = λ i b. subst⁻¹ (λ (xs : List ℕ). Says flow (suc i) m_exit (get_or xs i 0)) g.m
-            (column_says (fits plan) f.complete plan.prepared e.m i b);
-      }
-
-  pub done_searched : {r : Rows} {n : ℕ} → Finished (C1 flow) p.w flow r cells n → (d : Distances)
-      → ExitsOf p.w r.places r.patterns r.distances n p.ops d → GivenIs held.instructions held.count n d a
-      → FlowReport flow cells a a.end
-  unfolding FlowReport
-  done_searched f d e g = subst⁻¹ (λ (y : ReportEnd). FlowReport flow cells a y) g.end (given_reported f d e g)
-
-  pub full_searched : Outnumber flow cells → a ≡ refusal TooFewCells → FlowReport flow cells a a.end
-  unfolding FlowReport
-  full_searched o q = subst⁻¹ (λ (y : ReportEnd). FlowReport flow cells a y) (ap (λ (x : ReportAnswer). x.end) q) (refl, o, q)
-
--- ---- what is answered for a text
-module _ {o : Checked Flow} (cells : ℕ) (a : ReportAnswer) where
-  pub report_refused_lem : {why : Refusal} → o ≡ fault why → a ≡ refusal why → ReportOf o cells a
-  unfolding ReportOf
-  report_refused_lem e q = subst⁻¹ (λ (x : Checked Flow). ReportOf x cells a) e q
-
-  pub report_searched : {flow : Flow} → o ≡ ok flow → FlowReport flow cells a a.end → ReportOf o cells a
-  unfolding ReportOf
-  report_searched e h = subst⁻¹ (λ (x : Checked Flow). ReportOf x cells a) e h
+-- ---- a finished table gives the report
+pub given_reported : (held : FlowRows) {p : Plan} (plan : Planned (flow_of held) p) {w : ℕ} (wide : w ≡ p.w) → held.count ≤ max_instructions
+    → length held.instructions ≡ max_instructions → {cells : ℕ} {r : Rows} {n : ℕ} → Finished (C1 (flow_of held)) w (flow_of held) r cells n
+    → (d : Distances) → ExitsOf w r.places r.patterns r.distances n p.program.ops d
+    → (two : List Bool) → Each has_exits false held.instructions held.count two
+    → Reported (flow_of held) cells (record { instructions = held.count; configurations = n; two = two; p = d.p; m = d.m })
+unfolding flow_of
+given_reported held plan wide few long f d e two t =
+    record {
+      instructions = sym (length-take-le held.count held.instructions (omega (arith, few, long)))
+          ∙ sym (length-map (take held.count held.instructions) instruction_of);
+      count = finished-count plan wide f refl;
+      few = f.within;
+      two = λ i b. t.at i b;
+      p = λ i b. column_says (fits plan wide) f.complete plan.prepared e.p i b;
+      m = λ i b. column_says (fits plan wide) f.complete plan.prepared e.m i b;
+    }
 
 -- ---- the cells afterwards
 -- cells that were changed and then zeroed are zeroed
 pub zeroed-after : (c c₁ c₂ : List (List ℕ)) → length c₁ ≡ length c → c₂ ≡ zeroed c₁ → c₂ ≡ zeroed c
 zeroed-after c c₁ c₂ e z = z ∙ ap (λ (n : ℕ). replicate n (replicate cell_words 0)) e
 
-pub report_is : (text : List ℕ) (c c₁ c₂ : List (List ℕ)) (a : ReportAnswer) → ReportOf (read_flow text) (cells_of c) a → length c₁ ≡ length c
-    → {b : Bool} → b ≡ report_refused a.end → (b ≡ true → c₂ ≡ zeroed c₁) → ReportIs text c c₂ a
-unfolding report_refused
+pub report_is : (text : List ℕ) (c c₁ c₂ : List (List ℕ)) (a : Result ReportAnswer Refusal) → ReportOf (read_flow text) (cells_of c) a
+    → length c₁ ≡ length c → {b : Bool} → b ≡ is_err a → (b ≡ true → c₂ ≡ zeroed c₁) → ReportIs text c c₂ a
 report_is text c c₁ c₂ a h e q z =
-    record { answer = h; cells_zero = λ why w. zeroed-after c c₁ c₂ e (z (q ∙ ap report_refused w)) }
+    record { answer = h; cells_zero = λ why w. zeroed-after c c₁ c₂ e (z (q ∙ ap is_err w)) }

@@ -13,12 +13,12 @@ use Rattle.model.specs.Distance.{StepTakes}
 use Rattle.model.specs.Tapes.{tapes_in}
 use Rattle.model.proofs.LeastSteps.{steps-within}
 use Rattle.flow.specs.Legal.{Legal}
-use Rattle.flow.specs.Read.{Checked, ok, read_flow}
+use Rattle.std.specs.Prelude.{Some, Result, Ok}
+use Rattle.flow.specs.Read.{read_flow}
+use Rattle.flow.specs.declared.Refusal.{Refusal}
 use Rattle.flow.proofs.Tests.{ranges-sound}
 use Rattle.flow.proofs.LegalLaws.{read-legal}
 use Rattle.cells.specs.Cells.{most_cells, cells_of}
-use Rattle.sample.specs.declared.SampleEnd.{SampleEnd}
-use Rattle.sample.specs.declared.SampleEnd.TheVariants.{Taken}
 use Rattle.sample.specs.declared.SampleAnswer.{SampleAnswer}
 use Rattle.tape_maker.specs.Sample.{Sampled, Answered, SampleOf, SampleIs}
 
@@ -45,11 +45,10 @@ sampled_within {flow} legal {i} {e} {row' = row'} {r = r} s =
     }
 
 -- so are as many as there are cells, and 65,536
-pub sample-within : (text : List ℕ) (flow : Flow) → read_flow text ≡ ok flow → {i : ℕ} {exit : Bool} {cells cells' : List (List ℕ)} {row row' : List ℤ}
-    {r : SampleAnswer} → SampleIs text i exit cells cells' row row' r → r.end ≡ Taken → Within flow i (exit_if exit) row' r (cells_of cells) × (cells_of cells ≤ most_cells)
+pub sample-within : (text : List ℕ) (flow : Flow) → read_flow text ≡ Ok flow → {i : ℕ} {exit : Bool} {cells cells' : List (List ℕ)} {row row' : List ℤ}
+    {r : SampleAnswer} → SampleIs text i exit cells cells' row row' (Ok (Some r)) → Within flow i (exit_if exit) row' r (cells_of cells) × (cells_of cells ≤ most_cells)
 unfolding SampleOf Answered
-sample-within text flow read {i} {exit} {cells} {cells'} {row} {row'} {r} is taken =
-    let o = subst (λ (c : Checked Flow). SampleOf c i (exit_if exit) (cells_of cells) row row' r) read is.answer in
-    let s = subst (λ (end : SampleEnd). Answered flow i (exit_if exit) (cells_of cells) row row' r end) taken o in
+sample-within text flow read {i} {exit} {cells} {cells'} {row} {row'} {r} is =
+    let s = subst (λ (c : Result Flow Refusal). SampleOf c i (exit_if exit) (cells_of cells) row row' (Ok (Some r))) read is.answer in
     let w = sampled_within (read-legal text flow read) s in
     (record { step = w.step; taking = w.taking; few = omega (arith, w.few, s.held.few) }, omega arith)

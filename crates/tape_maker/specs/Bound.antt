@@ -1,11 +1,10 @@
 -- How many cells a flow takes (document 02, T-01), asked by its text.
+use Rattle.std.specs.Prelude.{ℕ, Option, Result, Ok, Err}
 use Rattle.model.specs.Language.{Flow}
-use Rattle.flow.specs.Read.{Checked, ok, fault}
+use Rattle.flow.specs.declared.Refusal.{Refusal}
 use Rattle.flow_bound.specs.Bound.{bound_of, bound_answer}
-use Rattle.flow_bound.specs.declared.BoundAnswer.{BoundAnswer}
-use Rattle.flow_bound.specs.declared.BoundAnswer.TheVariants.{Refused}
 
 -- the answer of a text: its own refusals come first
-unfoldable pub bound_in : Checked Flow → BoundAnswer
-bound_in (ok flow) = bound_answer (bound_of flow)
-bound_in (fault why) = Refused why
+unfoldable pub bound_in : Result Flow Refusal → Result (Option ℕ) Refusal
+bound_in (Ok flow) = Ok (bound_answer (bound_of flow))
+bound_in (Err why) = Err why

@@ -15,24 +15,27 @@ ghost use Rattle.tape_maker.specs.Bound.{bound_in};
 ghost use Rattle.tape_maker.specs.Run.{requested, RunIs};
 ghost use Rattle.tape_maker.specs.Report.{ReportIs};
 ghost use Rattle.tape_maker.specs.Sample.{SampleIs};
+ghost use Rattle.tape_maker.specs.Inner.Plan.{ReadAs};
 
 pub use cells::Cell;
-use flow::{Answer, Flow, Refusal};
-pub use flow_bound::BoundAnswer;
+use flow::{Flow, Refusal};
 pub use interpreter::{RunAnswer, RunEnd};
-pub use sample::{SampleAnswer, SampleEnd};
+pub use sample::SampleAnswer;
 
-// Says from the text alone how many cells are enough for the flow's report and for its samples: so many at most, or more than are used.
-pub fn bound(text: &[u8]) -> BoundAnswer
+// The flow of a text, or its refusal.
+fn read(text: &[u8]) -> Result<Flow, Refusal>
+    ensures { ReadAs (read_flow text.now) result }
+{
+    reader::read(text)
+}
+
+// Says from the text alone how many cells are enough for the flow's report and for its samples. `None`: more than are used.
+#[tactic(auto, unfolding(crate::specs::Bound::bound_in))]
+pub fn bound(text: &[u8]) -> Result<Option<usize>, Refusal>
     ensures { result ≡ bound_in (read_flow text.now) }
 {
-    let reading = reader::read(text);
-    let answer = reading.answer;
-    let flow = reading.flow;
-    match answer {
-        Answer::Refused(why) => BoundAnswer::Refused(why),
-        Answer::Legal => flow_bound::bound_of(flow),
-    }
+    let flow = read(text)?;
+    Ok(flow_bound::bound_of(flow))
 }
 
 // Runs a flow on the tapes that stand one after another in a row. A put writes its output tape's number and its value into the next
@@ -44,31 +47,18 @@ pub fn run(
     lengths: &[usize],
     numbers: &mut [u8],
     values: &mut [i32],
-) -> RunAnswer
+) -> Result<RunAnswer, Refusal>
     ensures { RunIs (requested text.now limit records.now lengths.now numbers.old values.old)
         numbers.old numbers.new values.old values.new result }
 {
-    let reading = reader::read(text);
-    let answer = reading.answer;
-    let flow = reading.flow;
-    match answer {
-        Answer::Refused(r) => running::run_refused(r),
-        Answer::Legal => running::run_flow(flow, limit, records, lengths, numbers, values),
-    }
-}
-
-// Whether a report was made.
-#[derive(Clone, Copy)]
-pub enum ReportEnd {
-    Given,
-    Refused(Refusal),
+    let flow = read(text)?;
+    running::run_flow(flow, limit, records, lengths, numbers, values)
 }
 
 // The report of a flow: its instructions, its reachable configurations, and for each instruction whether it has two exits and the
 // distance of each; 0 stands for none.
 #[derive(Clone, Copy)]
 pub struct ReportAnswer {
-    pub end: ReportEnd,
     pub instructions: usize,
     pub configurations: usize,
     pub two: [bool; Flow::MAX_INSTRUCTIONS],
@@ -86,30 +76,28 @@ fn release(cells: &mut [[u32; Cell::WORDS]], refused: bool)
 }
 
 // Reports the distance of every exit of a flow. The work cells are lent; at most 65,536 of them count.
-pub fn report(text: &[u8], cells: &mut [[u32; Cell::WORDS]]) -> ReportAnswer
+pub fn report(text: &[u8], cells: &mut [[u32; Cell::WORDS]]) -> Result<ReportAnswer, Refusal>
     ensures { ReportIs text.now cells.old cells.new result }
 {
-    let r = reporting::answer(text, cells);
-    let end = r.end;
-    release(cells, reporting::is_refusal(end));
-    r
+    let report = reporting::answer(text, cells);
+    release(cells, report.is_err());
+    report
 }
 
-// Writes a sample for an exit of an instruction, p if `exit`, into the record row, which has to be as long as the exit's distance. The work
-// cells are lent as for a report.
+// Writes a sample for an exit of an instruction, p if `exit`, into the record row, which has to be as long as the exit's distance. `None`:
+// no tapes take it. The work cells are lent as for a report.
 pub fn sample(
     text: &[u8],
     instruction: usize,
     exit: bool,
     cells: &mut [[u32; Cell::WORDS]],
     row: &mut [i32],
-) -> SampleAnswer
+) -> Result<Option<SampleAnswer>, Refusal>
     ensures { SampleIs text.now instruction exit cells.old cells.new row.old row.new result }
 {
-    let r = sampling::answer(text, instruction, exit, cells, row);
-    let end = r.end;
-    release(cells, sampling::is_refusal(end));
-    r
+    let sample = sampling::answer(text, instruction, exit, cells, row);
+    release(cells, sample.is_err());
+    sample
 }
 
 // The part of the record row that holds the records of one tape, counted from 1, by the lengths that came with the sample.

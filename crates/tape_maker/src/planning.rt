@@ -9,14 +9,13 @@ ghost use Rattle.tape_maker.specs.Inner.Plan.{AllFitBytes, Each, Planned};
 
 use configuration::{Op, Words, forms};
 use flow::{Flow, Instruction};
+use sample::Program;
 
-// What a search needs of a flow: its instructions, prepared; the width of its constants, C1 and C2; and the start.
+// What a search needs of a flow: its instructions, prepared, with C1 and C2; the width of its constants; and the start.
 #[derive(Clone, Copy)]
 pub struct Plan {
-    pub ops: [Op; Flow::MAX_INSTRUCTIONS],
+    pub program: Program,
     pub w: u64,
-    pub lo: i32,
-    pub hi: i32,
     pub start: Words,
 }
 
@@ -30,10 +29,8 @@ fn prepare(
     ensures { Each (op_of lo) blank instructions count result }
 {
     let mut ops = [Op::stop(); Flow::MAX_INSTRUCTIONS];
-    let mut i = 0;
-    while i < count {
+    for i in 0..count {
         ops[i] = forms::prepare(instructions[i], lo);
-        i += 1;
     }
     ops
 }
@@ -44,15 +41,13 @@ pub fn plan_of(flow: Flow) -> Plan
     ensures { Planned (flow_of flow) result }
 {
     let range = constants::range_of(flow);
-    let lo = range.lo;
-    let hi = range.hi;
-    let instructions = flow.instructions;
-    let count = flow.count;
     Plan {
-        ops: prepare(instructions, count, lo),
+        program: Program {
+            ops: prepare(flow.instructions, flow.count, range.lo),
+            lo: range.lo,
+            hi: range.hi,
+        },
         w: constants::width(range),
-        lo,
-        hi,
-        start: configuration::start(lo),
+        start: configuration::start(range.lo),
     }
 }

@@ -7,24 +7,13 @@ ghost use Rattle.flow.specs.Read.{read_flow};
 ghost use Rattle.flow.specs.Inner.Rows.{flow_of};
 ghost use Rattle.cells.specs.Cells.{cells_of};
 ghost use Rattle.tape_maker.specs.Sample.{Answered, SampleOf};
-ghost use Rattle.tape_maker.specs.Inner.Plan.{sample_refused, exits_at};
+ghost use Rattle.tape_maker.specs.Inner.Plan.{exits_at};
 
-use crate::{planning, reporting};
+use crate::planning;
 use cells::Cell;
-use flow::{Answer, Flow, Instruction, Refusal, lent};
-use sample::{SampleAnswer, SampleEnd};
-use search::Searched;
-
-// Whether a wish for a sample was refused.
-pub fn is_refusal(end: SampleEnd) -> bool
-    ensures { result ≡ sample_refused end }
-{
-    match end {
-        SampleEnd::Taken => false,
-        SampleEnd::Never => false,
-        SampleEnd::Refused(_) => true,
-    }
-}
+use flow::{Flow, Instruction, Refusal, lent};
+use pattern_word::Coding;
+use sample::SampleAnswer;
 
 // Whether instruction number i exists and has two exits.
 fn has_exits(instructions: [Instruction; Flow::MAX_INSTRUCTIONS], count: usize, i: usize) -> bool
@@ -37,9 +26,7 @@ fn has_exits(instructions: [Instruction; Flow::MAX_INSTRUCTIONS], count: usize, 
     if count < i {
         return false;
     }
-    let at = i - 1;
-    let x = lent::row_at(instructions, at);
-    reporting::has_two(x)
+    lent::fetch(&instructions, i - 1).kind.has_exits()
 }
 
 // The sample for an exit of a legal flow, p if `exit`, or the refusal.
@@ -49,33 +36,24 @@ fn sample_flow(
     exit: bool,
     cells: &mut [[u32; Cell::WORDS]],
     row: &mut [i32],
-) -> SampleAnswer
+) -> Result<Option<SampleAnswer>, Refusal>
     requires { Legal (flow_of flow) × (flow.count ≤ max_instructions) }
-    ensures { Answered (flow_of flow) instruction (exit_if exit) (cells_of cells.old) row.old row.new result result.end }
+    ensures { Answered (flow_of flow) instruction (exit_if exit) (cells_of cells.old) row.old row.new result }
 {
-    let instructions = flow.instructions;
-    let count = flow.count;
-    if !has_exits(instructions, count, instruction) {
-        return sample::without(SampleEnd::Refused(Refusal::NoSuchExit));
+    if !has_exits(flow.instructions, flow.count, instruction) {
+        return Err(Refusal::NoSuchExit);
     }
     let plan = planning::plan_of(flow);
-    let ops = plan.ops;
-    let w = plan.w;
-    let start = plan.start;
-    let table = outside_row::make_table();
-    let found = search::search(cells, &table, ops, w, start);
-    match found {
-        Searched::Full => sample::without(SampleEnd::Refused(Refusal::TooFewCells)),
-        Searched::Done(n) => {
+    let coding = Coding::new(plan.w);
+    match search::search(cells, &coding, plan.program.ops, plan.start) {
+        None => Err(Refusal::TooFewCells),
+        Some(n) => {
             let tapes = flow.tapes as usize;
             sample::sample_for(
                 cells,
-                &table,
+                &coding,
                 n,
-                ops,
-                w,
-                plan.lo,
-                plan.hi,
+                &plan.program,
                 tapes,
                 instruction,
                 exit,
@@ -86,20 +64,16 @@ fn sample_flow(
 }
 
 // The sample for an exit of a text's flow, or the refusal.
+#[tactic(auto, unfolding(crate::specs::Sample::SampleOf))]
 pub fn answer(
     text: &[u8],
     instruction: usize,
     exit: bool,
     cells: &mut [[u32; Cell::WORDS]],
     row: &mut [i32],
-) -> SampleAnswer
+) -> Result<Option<SampleAnswer>, Refusal>
     ensures { SampleOf (read_flow text.now) instruction (exit_if exit) (cells_of cells.old) row.old row.new result }
 {
-    let reading = reader::read(text);
-    let answer = reading.answer;
-    let flow = reading.flow;
-    match answer {
-        Answer::Refused(why) => sample::without(SampleEnd::Refused(why)),
-        Answer::Legal => sample_flow(flow, instruction, exit, cells, row),
-    }
+    let flow = crate::read(text)?;
+    sample_flow(flow, instruction, exit, cells, row)
 }

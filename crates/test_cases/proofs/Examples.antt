@@ -3,10 +3,9 @@ use mathlib.Core.Path.{◌≡◌, refl}
 use Prim.Native.Nat.{ℕ}
 use Rattle.text.specs.Bytes.{bytes}
 use Rattle.text.specs.Inner.Divided.{until}
-use Rattle.test_cases.specs.declared.Case.{Case}
-use Rattle.test_cases.specs.Cases.{before_empty, next_case}
+use Rattle.test_cases.specs.Cases.{Places, before_empty, next_case}
 
-abbrev case : ℕ → ℕ → ℕ → Case
+abbrev case : ℕ → ℕ → ℕ → Places
 case n s e = record { named = n; start = s; end = e }
 
 -- a text of two lines, with a second case behind it

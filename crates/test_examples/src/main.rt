@@ -3,94 +3,81 @@
 // documents say.
 #![tactic(auto)]
 
-use std::io;
-use tape_maker::{Cell, RunAnswer, RunEnd};
+use std::{fmt, io};
+use tape_maker::{Cell, RunEnd};
+use test_show::Refused;
 
-fn print_count(rt: &impl Print, n: u32) -> io::Result<()> {
-    test_show::field(rt, n as u64)
-}
+const FLOW_A: &[u8] = b"flow,1,0,1\n1,read,1,1,2,3\n2,over,5,1,1,3\n3,stop\n";
 
-fn print_end(rt: &impl Print, end: RunEnd) -> io::Result<()> {
-    match end {
-        RunEnd::Stopped => test_show::print(rt, b"stopped"),
-        RunEnd::Spent => test_show::print(rt, b"spent"),
-        RunEnd::Full => test_show::print(rt, b"full"),
-        RunEnd::Refused(r) => test_show::refusal(rt, r),
+const FLOW_B: &[u8] = b"flow,1,1,1\n1,read,1,1,2,3\n2,put,1,1,1\n3,stop\n";
+
+const MERGE: &[u8] =
+    b"flow,2,1,2\n1,read,1,1,2,10\n2,read,2,2,3,8\n3,less,1,2,4,5\n4,put,1,1,6\n5,put,2,1,2\n6,read,1,1,3,7\n7,put,2,1,12\n8,put,1,1,9\n9,read,1,1,8,12\n10,read,2,2,11,12\n11,put,2,1,10\n12,stop\n";
+
+// How a run ends.
+#[derive(Clone, Copy)]
+struct End(RunEnd);
+
+impl fmt::Display for End {
+    fn fmt<W: fmt::Write>(&self, f: &mut fmt::Formatter<W>) -> fmt::Result {
+        match self.0 {
+            RunEnd::Stopped => write!(f, "stopped"),
+            RunEnd::Spent => write!(f, "spent"),
+            RunEnd::Full => write!(f, "full"),
+        }
     }
 }
 
-fn print_run(rt: &impl Print, a: RunAnswer) -> io::Result<()> {
-    let end = a.end;
-    print_end(rt, end)?;
-    test_show::field(rt, a.steps)?;
-    test_show::field(rt, a.puts as u64)?;
-    let p = a.p;
-    let m = a.m;
-    test_show::print(rt, b" p")?;
-    print_count(rt, p[0])?;
-    print_count(rt, p[1])?;
-    test_show::print(rt, b" m")?;
-    print_count(rt, m[0])?;
-    print_count(rt, m[1])?;
-    test_show::print(rt, b"\n")
-}
-
-// One tape, so many output cells.
-fn one_tape(
+fn print_run(
     rt: &impl Print,
     text: &[u8],
     limit: u64,
-    tape: &[i32],
+    records: &[i32],
+    lengths: &[usize],
     numbers: &mut [u8],
     values: &mut [i32],
 ) -> io::Result<()> {
-    let lengths = [tape.len()];
-    print_run(
-        rt,
-        tape_maker::run(text, limit, tape, &lengths, numbers, values),
-    )
+    match tape_maker::run(text, limit, records, lengths, numbers, values) {
+        Ok(ran) => {
+            let (p, m) = (ran.p, ran.m);
+            println!(rt;
+                "{},{},{} p,{},{} m,{},{}",
+                End(ran.end),
+                ran.steps,
+                ran.puts,
+                p[0],
+                p[1],
+                m[0],
+                m[1]
+            )
+        }
+        Err(why) => println!(rt; "{},0,0 p,0,0 m,0,0", Refused(why)),
+    }
+}
+
+// A run without output.
+fn run_alone(rt: &impl Print, text: &[u8], limit: u64, tape: &[i32]) -> io::Result<()> {
+    print_run(rt, text, limit, tape, &[tape.len()], &mut [0], &mut [0])
 }
 
 fn flow_a(rt: &impl Print, limit: u64, tape: &[i32]) -> io::Result<()> {
-    let mut numbers = [0u8; 1];
-    let mut values = [0i32; 1];
-    let text = b"flow,1,0,1\n1,read,1,1,2,3\n2,over,5,1,1,3\n3,stop\n";
-    one_tape(rt, text, limit, tape, &mut numbers, &mut values)
+    run_alone(rt, FLOW_A, limit, tape)
 }
 
 fn flow_b(rt: &impl Print, limit: u64, tape: &[i32], numbers: &mut [u8]) -> io::Result<()> {
-    let mut values = [0i32; 4];
-    let text = b"flow,1,1,1\n1,read,1,1,2,3\n2,put,1,1,1\n3,stop\n";
-    one_tape(rt, text, limit, tape, numbers, &mut values)
+    print_run(rt, FLOW_B, limit, tape, &[tape.len()], numbers, &mut [0; 4])
 }
 
 // The merge of the 1977 paper, with its bug: on (0) and (1,2) the last record is lost.
-fn merge(rt: &impl Print, row: &[i32], a: usize, b: usize) -> io::Result<()> {
-    let mut numbers = [0u8; 8];
-    let mut values = [0i32; 8];
-    let lengths = [a, b];
-    let text =
-        b"flow,2,1,2\n1,read,1,1,2,10\n2,read,2,2,3,8\n3,less,1,2,4,5\n4,put,1,1,6\n5,put,2,1,2\n6,read,1,1,3,7\n7,put,2,1,12\n8,put,1,1,9\n9,read,1,1,8,12\n10,read,2,2,11,12\n11,put,2,1,10\n12,stop\n";
-    print_run(
-        rt,
-        tape_maker::run(text, 1000, row, &lengths, &mut numbers, &mut values),
-    )
-}
-
-// The report of flow A with these cells.
-fn report_a(rt: &impl Print, cells: &mut [[u32; Cell::WORDS]]) -> io::Result<()> {
-    let text = b"flow,1,0,1\n1,read,1,1,2,3\n2,over,5,1,1,3\n3,stop\n";
-    test_show::report(rt, tape_maker::report(text, cells))
+fn merge(rt: &impl Print, records: &[i32], lengths: &[usize]) -> io::Result<()> {
+    print_run(rt, MERGE, 1000, records, lengths, &mut [0; 8], &mut [0; 8])
 }
 
 // Flow A with 18, 19 and 0 cells.
 fn cells(rt: &impl Print) -> io::Result<()> {
-    let mut few = [[0u32; Cell::WORDS]; 18];
-    let mut enough = [[0u32; Cell::WORDS]; 19];
-    let mut no = [[0u32; Cell::WORDS]; 0];
-    report_a(rt, &mut few)?;
-    report_a(rt, &mut enough)?;
-    report_a(rt, &mut no)
+    test_show::report(rt, FLOW_A, &mut [[0; Cell::WORDS]; 18])?;
+    test_show::report(rt, FLOW_A, &mut [[0; Cell::WORDS]; 19])?;
+    test_show::report(rt, FLOW_A, &mut [[0; Cell::WORDS]; 0])
 }
 
 // The exits of which the document says that no tapes take them.
@@ -106,15 +93,11 @@ fn reports(rt: &impl Print) -> io::Result<()> {
 
 // A text of no bytes: runs with the limit 0 and on a record that is not read, and its report with 4,096 cells, with one and with none.
 fn no_bytes(rt: &impl Print) -> io::Result<()> {
-    let mut numbers = [0u8; 1];
-    let mut values = [0i32; 1];
-    let mut one = [[0u32; Cell::WORDS]; 1];
-    let mut no = [[0u32; Cell::WORDS]; 0];
-    one_tape(rt, b"", 0, &[], &mut numbers, &mut values)?;
-    one_tape(rt, b"", 1000000, &[7], &mut numbers, &mut values)?;
+    run_alone(rt, b"", 0, &[])?;
+    run_alone(rt, b"", 1000000, &[7])?;
     test_show::report_of(rt, b"")?;
-    test_show::report(rt, tape_maker::report(b"", &mut one))?;
-    test_show::report(rt, tape_maker::report(b"", &mut no))
+    test_show::report(rt, b"", &mut [[0; Cell::WORDS]; 1])?;
+    test_show::report(rt, b"", &mut [[0; Cell::WORDS]; 0])
 }
 
 fn main(rt: HostRuntime) -> io::Result<()> {
@@ -124,32 +107,14 @@ fn main(rt: HostRuntime) -> io::Result<()> {
     flow_a(&rt, 1000000, &[6, 9, 5])?;
     flow_a(&rt, 2, &[6])?;
     flow_a(&rt, 3, &[6])?;
-    let mut four = [0u8; 4];
-    let mut one = [0u8; 1];
-    flow_b(&rt, 1000000, &[4, -7], &mut four)?;
-    flow_b(&rt, 1000000, &[4, -7], &mut one)?;
-    flow_b(&rt, 3, &[4, -7], &mut one)?;
-    flow_b(&rt, 0, &[4, -7], &mut one)?;
-    merge(&rt, &[0, 1, 2], 1, 2)?;
-    merge(&rt, &[0, 1, 2], 2, 2)?;
-    let mut numbers = [0u8; 1];
-    let mut values = [0i32; 1];
-    one_tape(
-        &rt,
-        b"flow,1,0,1\n1,nop,1\n",
-        2000000,
-        &[],
-        &mut numbers,
-        &mut values,
-    )?;
-    one_tape(
-        &rt,
-        b"flow,1,0,1\n1,stop\n",
-        0,
-        &[],
-        &mut numbers,
-        &mut values,
-    )?;
+    flow_b(&rt, 1000000, &[4, -7], &mut [0; 4])?;
+    flow_b(&rt, 1000000, &[4, -7], &mut [0])?;
+    flow_b(&rt, 3, &[4, -7], &mut [0])?;
+    flow_b(&rt, 0, &[4, -7], &mut [0])?;
+    merge(&rt, &[0, 1, 2], &[1, 2])?;
+    merge(&rt, &[0, 1, 2], &[2, 2])?;
+    run_alone(&rt, b"flow,1,0,1\n1,nop,1\n", 2000000, &[])?;
+    run_alone(&rt, b"flow,1,0,1\n1,stop\n", 0, &[])?;
     no_bytes(&rt)?;
     reports(&rt)?;
     cells(&rt)

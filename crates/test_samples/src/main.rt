@@ -7,11 +7,12 @@
 ghost use Rattle.std.specs.Prelude.{◌<◌};
 ghost use Rattle.flow.specs.Limits.{max_instructions};
 
-use flow::{Flow, Instruction, Kind};
-use input::Input;
+use flow::{Flow, Kind, Refusal};
 use std::rt::Files;
 use std::{fs, io};
-use tape_maker::{Cell, RunAnswer, SampleAnswer, SampleEnd};
+use tape_maker::{Cell, RunAnswer, SampleAnswer};
+use test_cases::Cases;
+use test_show::{Exit, Refused};
 
 // The cells of the record row before a sample is asked for; no record of a sample is so large.
 const BLANK: i32 = 77777;
@@ -19,267 +20,166 @@ const BLANK: i32 = 77777;
 // The work cells of data/flows, and the cells of the record row and of the output rows.
 const CELLS: usize = 4096;
 
-// Whether the cells of a row from one on are blank.
-fn blank_from(row: &[i32], from: usize) -> bool {
-    let mut i = from;
-    while i < row.len() {
-        if row[i] != BLANK {
-            return false;
-        }
-        i += 1;
-    }
-    true
+fn is_blank(row: &[i32]) -> bool {
+    row.iter().all(|record| *record == BLANK)
 }
 
-fn ask_few(text: &[u8], i: usize, p: bool, row: &mut [i32]) -> SampleAnswer {
-    let mut cells = [[0u32; Cell::WORDS]; CELLS];
-    tape_maker::sample(text, i, p, &mut cells, row)
-}
-
-fn ask_many(text: &[u8], i: usize, p: bool, row: &mut [i32]) -> SampleAnswer {
-    let mut cells = [[0u32; Cell::WORDS]; Cell::MOST];
-    tape_maker::sample(text, i, p, &mut cells, row)
-}
-
-fn ask(text: &[u8], i: usize, p: bool, wide: bool, row: &mut [i32]) -> SampleAnswer {
-    if wide {
-        return ask_many(text, i, p, row);
-    }
-    ask_few(text, i, p, row)
-}
-
-fn run(text: &[u8], limit: u64, records: &[i32], lengths: &[usize]) -> RunAnswer {
+fn run(text: &[u8], limit: u64, records: &[i32], lengths: &[usize]) -> Result<RunAnswer, Refusal> {
     let mut numbers = [0u8; CELLS];
     let mut values = [0i32; CELLS];
     tape_maker::run(text, limit, records, lengths, &mut numbers, &mut values)
 }
 
-fn reads_tape(x: Instruction) -> bool {
-    let kind = x.kind;
-    match kind {
-        Kind::Read => true,
-        _ => false,
-    }
+// An exit of instruction index + 1 of a flow.
+#[derive(Drop)]
+struct Wish<'a> {
+    text: &'a [u8],
+    flow: &'a Flow,
+    index: usize,
+    p: bool,
+    ghost within: { index < max_instructions },
 }
 
-// Whether the reads of a run took so many records. What is left of the number falls, so nothing can wrap.
-fn reads_all(f: Flow, ran: RunAnswer, records: u64) -> bool {
-    let p = ran.p;
-    let mut left = records;
-    let mut i = 0;
-    while i < Flow::MAX_INSTRUCTIONS {
-        let x = f.instructions[i];
-        if reads_tape(x) {
-            let n = p[i] as u64;
-            if left < n {
-                return false;
+impl Wish<'_> {
+    fn exit(&self) -> Exit {
+        Exit {
+            instruction: self.index + 1,
+            p: self.p,
+        }
+    }
+
+    // How often a run took the exit.
+    fn times(&self, ran: &RunAnswer) -> u32 {
+        if self.p {
+            ran.p[self.index]
+        } else {
+            ran.m[self.index]
+        }
+    }
+
+    // With which step a run on the tapes first takes the exit, found by halves; 131,072 also for a later step or none.
+    fn first_step(&self, records: &[i32], lengths: &[usize]) -> u64 {
+        let mut before = 0;
+        let mut span = 65536;
+        while 0 < span {
+            let ran = run(self.text, before + span, records, lengths);
+            if !matches!(&ran, Ok(ran) if 0 < self.times(ran)) {
+                before += span;
             }
-            left -= n;
+            span /= 2;
         }
-        i += 1;
+        before + 1
     }
-    left == 0
-}
 
-// Whether a run took so many exits. What is left of the number falls, so nothing can wrap.
-fn takes_all(ran: RunAnswer, exits: u64) -> bool {
-    let p = ran.p;
-    let m = ran.m;
-    let mut left = exits;
-    let mut i = 0;
-    while i < Flow::MAX_INSTRUCTIONS {
-        let n = p[i] as u64;
-        if left < n {
+    // How many records the reads of a run took.
+    fn records_read(&self, ran: &RunAnswer) -> u64 {
+        self.flow
+            .instructions
+            .iter()
+            .zip(ran.p.iter())
+            .filter(|(x, _)| matches!(x.kind, Kind::Read))
+            .fold(0u64, |sum, (_, n)| sum.saturating_add(u64::from(*n)))
+    }
+
+    // Whether tapes are a sample for the exit: a run on them takes it first as exit number d, and has read all records then.
+    fn is_sample(&self, d: usize, records: &[i32], lengths: &[usize]) -> bool {
+        let n = self.first_step(records, lengths);
+        let Ok(ran) = run(self.text, n, records, lengths) else {
             return false;
-        }
-        left -= n;
-        let n = m[i] as u64;
-        if left < n {
+        };
+        ran.steps == n
+            && self.times(&ran) == 1
+            && exits_taken(&ran) == d as u64
+            && self.records_read(&ran) == records.len() as u64
+    }
+
+    // Whether the row holds the sample of an answer, and is blank beyond it. The lengths past those of the flow's tapes are 0.
+    fn is_held(&self, a: &SampleAnswer, row: &[i32]) -> bool {
+        let Some((lengths, idle)) = a.lengths.split_at_checked(a.tapes) else {
             return false;
-        }
-        left -= n;
-        i += 1;
+        };
+        let n = lengths.iter().fold(0usize, |sum, n| sum.saturating_add(*n));
+        let Some((records, rest)) = row.split_at_checked(n) else {
+            return false;
+        };
+        idle.iter().all(|n| *n == 0)
+            && is_blank(rest)
+            && self.is_sample(a.distance, records, lengths)
     }
-    left == 0
 }
 
-// How often a run took an exit.
-fn times(ran: RunAnswer, i: usize, p: bool) -> u32 {
-    if Flow::MAX_INSTRUCTIONS <= i {
-        return 0;
-    }
-    if p {
-        let counts = ran.p;
-        return counts[i];
-    }
-    let counts = ran.m;
-    counts[i]
+// How many exits a run took.
+fn exits_taken(ran: &RunAnswer) -> u64 {
+    ran.p
+        .iter()
+        .chain(ran.m.iter())
+        .fold(0u64, |sum, n| sum.saturating_add(u64::from(*n)))
 }
 
-// With which step a run on the tapes first takes exit p or m of instruction i + 1, found by halves; 131,072 also for a later step or none.
-fn first_step(text: &[u8], i: usize, p: bool, records: &[i32], lengths: &[usize]) -> u64 {
-    let mut before = 0;
-    let mut span = 65536;
-    while 0 < span {
-        let ran = run(text, before + span, records, lengths);
-        if times(ran, i, p) == 0 {
-            before += span;
-        }
-        span /= 2;
-    }
-    before + 1
-}
-
-// Whether tapes are a sample for exit p or m of instruction i + 1: a run on them takes it first as exit number d, and has read all records then.
-fn is_sample(
-    text: &[u8],
-    f: Flow,
-    i: usize,
-    p: bool,
-    d: u64,
-    records: &[i32],
-    lengths: &[usize],
-) -> bool {
-    let n = first_step(text, i, p, records, lengths);
-    let ran = run(text, n, records, lengths);
-    let first = (ran.steps == n) & (times(ran, i, p) == 1);
-    first & takes_all(ran, d) & reads_all(f, ran, records.len() as u64)
-}
-
-// The sum of lengths, or `most` where it is more.
-fn total(lengths: &[usize], most: usize) -> usize {
-    let mut left = most;
-    let mut i = 0;
-    while i < lengths.len() {
-        if left < lengths[i] {
-            return most;
-        }
-        left -= lengths[i];
-        i += 1;
-    }
-    most - left
-}
-
-// Whether the row holds a sample with these lengths, and is blank beyond it.
-fn holds(text: &[u8], f: Flow, i: usize, p: bool, d: u64, row: &[i32], lengths: &[usize]) -> bool {
-    let n = total(lengths, row.len());
-    if row.len() < n {
-        return false;
-    }
-    blank_from(row, n) & is_sample(text, f, i, p, d, &row[0..n], lengths)
-}
-
-// The same for as many lengths as there are tapes; the others are 0.
-fn holds_tapes(
-    text: &[u8],
-    f: Flow,
-    i: usize,
-    p: bool,
-    d: u64,
-    row: &[i32],
-    lengths: &[usize],
-    t: usize,
-) -> bool {
-    if lengths.len() < t {
-        return false;
-    }
-    let idle = total(lengths, row.len()) == total(&lengths[0..t], row.len());
-    idle & holds(text, f, i, p, d, row, &lengths[0..t])
-}
-
-fn print_end(rt: &impl Print, p: bool, yes: &[u8], no: &[u8]) -> io::Result<()> {
-    if p {
-        test_show::print(rt, yes)?;
-    } else {
-        test_show::print(rt, no)?;
-    }
-    test_show::print(rt, b"\n")
-}
-
-// The line of an exit of instruction i + 1; no line where the instruction has no two exits.
-fn print_sample(
-    rt: &impl Print,
-    text: &[u8],
-    f: Flow,
-    i: usize,
-    p: bool,
-    wide: bool,
-) -> io::Result<()>
-    requires { i < max_instructions }
-{
+// The line of an exit; no line where the instruction has no two exits.
+fn print_sample(rt: &impl Print, wish: &Wish, cells: &mut [[u32; Cell::WORDS]]) -> io::Result<()> {
     let mut row = [BLANK; CELLS];
-    let a = ask(text, i + 1, p, wide, &mut row);
-    let end = a.end;
-    match end {
-        SampleEnd::Taken => {
-            let d = a.distance;
-            let lengths = a.lengths;
-            test_show::exit(rt, i + 1, p)?;
-            test_show::field(rt, d as u64)?;
-            let taken = holds_tapes(text, f, i, p, d as u64, &row, &lengths, a.tapes);
-            print_end(rt, taken, b",taken", b",not taken")
+    let exit = wish.exit();
+    let answer = tape_maker::sample(wish.text, exit.instruction, exit.p, cells, &mut row);
+    let changed = if is_blank(&row) {
+        ""
+    } else {
+        ", and the row is changed"
+    };
+    match answer {
+        Ok(Some(sample)) => {
+            let taken = if wish.is_held(&sample, &row) {
+                "taken"
+            } else {
+                "not taken"
+            };
+            println!(rt; "{exit},{},{taken}", sample.distance)
         }
-        SampleEnd::Never => {
-            test_show::exit(rt, i + 1, p)?;
-            print_end(
-                rt,
-                blank_from(&row, 0),
-                b",none",
-                b",none, and the row is changed",
-            )
-        }
-        SampleEnd::Refused(why) => {
-            if why.number() == 11 {
-                return Ok(());
-            }
-            test_show::exit(rt, i + 1, p)?;
-            test_show::print(rt, b",")?;
-            test_show::refusal(rt, why)?;
-            print_end(rt, blank_from(&row, 0), b"", b", and the row is changed")
-        }
+        Ok(None) => println!(rt; "{exit},none{changed}"),
+        Err(Refusal::NoSuchExit) => Ok(()),
+        Err(why) => println!(rt; "{exit},{}{changed}", Refused(why)),
     }
 }
 
-fn print_samples(rt: &impl Print, text: &[u8], wide: bool) -> io::Result<()> {
-    let reading = reader::read(text);
-    let f = reading.flow;
-    let mut i = 0;
-    while i < Flow::MAX_INSTRUCTIONS {
-        if i < f.count {
-            print_sample(rt, text, f, i, true, wide)?;
-            print_sample(rt, text, f, i, false, wide)?;
+fn print_samples(rt: &impl Print, text: &[u8], cells: &mut [[u32; Cell::WORDS]]) -> io::Result<()> {
+    let Ok(flow) = reader::read(text) else {
+        return Ok(());
+    };
+    for index in 0..flow.count.min(Flow::MAX_INSTRUCTIONS) {
+        for p in [true, false] {
+            let wish = Wish {
+                text,
+                flow: &flow,
+                index,
+                p,
+            };
+            print_sample(rt, &wish, cells)?;
         }
-        i += 1;
     }
     Ok(())
 }
 
 // The samples of the flows of a file.
-fn print_flows(rt: &impl Print, file: &[u8], wide: bool) -> io::Result<()> {
-    let mut at = 0;
-    while at < file.len() {
-        let case = test_cases::next(file, at);
-        let named = case.named;
-        let start = case.start;
-        let end = case.end;
-        test_show::print(rt, &file[at..named])?;
-        test_show::print(rt, b"\n")?;
-        print_samples(rt, &file[start..end], wide)?;
-        at = end + 1;
+fn print_file(
+    rt: &(impl Files + Print),
+    name: &str,
+    cells: &mut [[u32; Cell::WORDS]],
+) -> io::Result<()> {
+    let mut buf = [0u8; 131072];
+    let mut file = fs::open(rt, name)?;
+    let n = input::read_all(&mut file, &mut buf).map_err(|_| io::Error::other(
+        "a file of flows cannot be read",
+    ))?;
+    for case in Cases::new(&buf[..n]) {
+        test_show::line(rt, case.name)?;
+        print_samples(rt, case.text, cells)?;
     }
     Ok(())
 }
 
-fn print_file(rt: &(impl Files + Print), name: &str, wide: bool) -> io::Result<()> {
-    let mut buf = [0u8; 131072];
-    let mut file = fs::open(rt, name)?;
-    match input::read_all(&mut file, &mut buf) {
-        Input::Bytes(n) => print_flows(rt, &buf[0..n], wide),
-        Input::Failed => Err(io::Error::other("a file of flows cannot be read")),
-    }
-}
-
 fn main(rt: HostRuntime) -> io::Result<()> {
-    print_file(&rt, "flows", false)?;
-    print_file(&rt, "wide", true)
+    let mut cells = [[0u32; Cell::WORDS]; CELLS];
+    print_file(&rt, "flows", &mut cells)?;
+    let mut most = [[0u32; Cell::WORDS]; Cell::MOST];
+    print_file(&rt, "wide", &mut most)
 }

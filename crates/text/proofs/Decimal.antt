@@ -3,7 +3,7 @@
 use mathlib.Core.Path.{◌≡◌, refl, sym, ap, ◌∙◌}
 use mathlib.Core.Bool.{Bool, true, false, cond}
 use mathlib.Core.List.{List, [], ◌∷◌, ◌++◌}
-use mathlib.Core.Option.{Option, none, some, map}
+use Rattle.std.specs.Prelude.{Option, None, Some, option_map}
 use Prim.Native.Nat.{ℕ, zero, suc, ◌+◌, ◌*◌, ◌/◌, ◌%◌, ◌^◌, ◌≤◌, ◌<◌}
 use native.Mathlib.Omega.{arith}
 use native.Mathlib.Decide.{dec_lt}
@@ -13,29 +13,30 @@ use lib.IntN.{ℤ, pos, negsuc, nat_abs}
 use lib.ListN.{length, length-append}
 use Rattle.text.specs.Number.{digits_after, natural, negative, numeral}
 use Rattle.text.specs.Write.{decimal, signed}
-pub use Rattle.text.proofs.DigitByDigit.{none_no_some, one_digit, more-digits, FirstDigit}
+pub use Rattle.text.proofs.Cap.{none_no_some}
+pub use Rattle.text.proofs.DigitByDigit.{one_digit, more-digits, FirstDigit}
 use Rattle.text.proofs.DigitByDigit.{first_digit, digit_read, digits_more, digits-written, natural-digits, no_zero}
 use Rattle.text.proofs.Joined.{Past}
 
 -- ---- a number without a minus
 -- one digit more behind a number other than 0
-natural_longer : (f : List ℕ) (q d : ℕ) → 0 < q → d < 10 → natural f ≡ some q → natural (f ++ ((48 + d) ∷ [])) ≡ some (q * 10 + d)
+natural_longer : (f : List ℕ) (q d : ℕ) → 0 < q → d < 10 → natural f ≡ Some q → natural (f ++ ((48 + d) ∷ [])) ≡ Some (q * 10 + d)
 unfolding natural digits_after
 natural_longer [] q d z l e = absurd (none_no_some e)
 natural_longer (b ∷ []) q d z l e =
-    let lead : b ≡ 48 → ⊥ = λ h. let zero : some 0 ≡ some q = rw h at e in let none : 0 ≡ q = cc in omega arith in
+    let lead : b ≡ 48 → ⊥ = λ h. let zero : Some 0 ≡ Some q = rw h at e in let None : 0 ≡ q = cc in omega arith in
     rw (ne_eqb b 48 lead) (digits_more 0 q d (b ∷ []) l e)
 natural_longer (b ∷ c ∷ f) q d z l e =
     rw (ne_eqb b 48 (no_zero b c f q e)) (digits_more 0 q d (b ∷ c ∷ f) l (natural-digits b (c ∷ f) q e))
 
 -- what is written is read: the numbers below k
-read_below : (k n : ℕ) → n < k → natural (decimal n) ≡ some n
+read_below : (k n : ℕ) → n < k → natural (decimal n) ≡ Some n
 unfolding natural digits_after
 read_below zero n l = absurd (omega arith)
 read_below (suc k) n l = by (dec_lt n 10) (read_below k)
   where
-    by : Dec (n < 10) → ((q : ℕ) → q < k → natural (decimal q) ≡ some q) → natural (decimal n) ≡ some n
-    by (yes h) below = let same : 0 * 10 + n ≡ n = omega arith in rw (one_digit n h) (digit_read 0 n [] h ∙ ap some same)
+    by : Dec (n < 10) → ((q : ℕ) → q < k → natural (decimal q) ≡ Some q) → natural (decimal n) ≡ Some n
+    by (yes h) below = let same : 0 * 10 + n ≡ n = omega arith in rw (one_digit n h) (digit_read 0 n [] h ∙ ap Some same)
     by (no h) below =
         let q : ℕ = n / 10 in
         let d : ℕ = n % 10 in
@@ -43,11 +44,11 @@ read_below (suc k) n l = by (dec_lt n 10) (read_below k)
         rw (split, more-digits q d (omega arith) (omega arith))
         (natural_longer (decimal q) q d (omega arith) (omega arith) (below q (omega arith)))
 
-pub decimal-read : (n : ℕ) → natural (decimal n) ≡ some n
+pub decimal-read : (n : ℕ) → natural (decimal n) ≡ Some n
 decimal-read n = read_below (suc n) n (omega arith)
 
 -- what is read was written
-pub natural-written : (f : List ℕ) (n : ℕ) → natural f ≡ some n → f ≡ decimal n
+pub natural-written : (f : List ℕ) (n : ℕ) → natural f ≡ Some n → f ≡ decimal n
 unfolding natural digits_after
 natural-written [] n e = absurd (none_no_some e)
 natural-written (b ∷ []) n e =
@@ -68,43 +69,43 @@ abbrev pub written-number : Bool → ℤ → List ℕ
 written-number true z = signed z
 written-number false z = decimal (nat_abs z)
 
-natural_plain : (minus : Bool) (f : List ℕ) (n : ℕ) → natural f ≡ some n → numeral minus f ≡ some (pos n)
+natural_plain : (minus : Bool) (f : List ℕ) (n : ℕ) → natural f ≡ Some n → numeral minus f ≡ Some (pos n)
 unfolding numeral natural
 natural_plain minus [] n e = absurd (none_no_some e)
 natural_plain minus (b ∷ f) n e =
     let o = first_digit 0 b f n (natural-digits b f n e) in
     rw (ne_eqb b 45 (λ h. omega arith), e)
 
-pub signed-read : (z : ℤ) → numeral true (signed z) ≡ some z
+pub signed-read : (z : ℤ) → numeral true (signed z) ≡ Some z
 unfolding numeral negative
 signed-read (pos n) = natural_plain true (decimal n) n (decimal-read n)
 signed-read (negsuc n) = rw (decimal-read (suc n))
 
-pub plain_read : (n : ℕ) → numeral false (decimal n) ≡ some (pos n)
+pub plain_read : (n : ℕ) → numeral false (decimal n) ≡ Some (pos n)
 plain_read n = natural_plain false (decimal n) n (decimal-read n)
 
-pub numeral-written : (minus : Bool) (f : List ℕ) (z : ℤ) → numeral minus f ≡ some z → f ≡ written-number minus z
+pub numeral-written : (minus : Bool) (f : List ℕ) (z : ℤ) → numeral minus f ≡ Some z → f ≡ written-number minus z
 unfolding numeral negative
 numeral-written minus [] z e = absurd (none_no_some e)
 numeral-written minus (b ∷ f) z e = by minus (eqb b 45) refl e
   where
-    plain : (m : Bool) (o : Option ℕ) → natural (b ∷ f) ≡ o → map pos o ≡ some z → b ∷ f ≡ written-number m z
-    plain m none h e = absurd (none_no_some e)
-    plain true (some n) h e = let is : pos n ≡ z = cc in natural-written (b ∷ f) n h ∙ ap (written-number true) is
-    plain false (some n) h e = let is : pos n ≡ z = cc in natural-written (b ∷ f) n h ∙ ap (written-number false) is
+    plain : (m : Bool) (o : Option ℕ) → natural (b ∷ f) ≡ o → option_map pos o ≡ Some z → b ∷ f ≡ written-number m z
+    plain m None h e = absurd (none_no_some e)
+    plain true (Some n) h e = let is : pos n ≡ z = cc in natural-written (b ∷ f) n h ∙ ap (written-number true) is
+    plain false (Some n) h e = let is : pos n ≡ z = cc in natural-written (b ∷ f) n h ∙ ap (written-number false) is
 
-    below : (o : Option ℕ) → natural f ≡ o → b ≡ 45 → negative o ≡ some z → b ∷ f ≡ signed z
-    below none h m e = absurd (none_no_some e)
-    below (some zero) h m e = absurd (none_no_some e)
-    below (some (suc n)) h m e = let is : negsuc n ≡ z = cc in rw m (ap (◌∷◌ 45) (natural-written f (suc n) h) ∙ ap signed is)
+    below : (o : Option ℕ) → natural f ≡ o → b ≡ 45 → negative o ≡ Some z → b ∷ f ≡ signed z
+    below None h m e = absurd (none_no_some e)
+    below (Some zero) h m e = absurd (none_no_some e)
+    below (Some (suc n)) h m e = let is : negsuc n ≡ z = cc in rw m (ap (◌∷◌ 45) (natural-written f (suc n) h) ∙ ap signed is)
 
-    by : (m t : Bool) → eqb b 45 ≡ t → cond t (cond m (negative (natural f)) none) (map pos (natural (b ∷ f))) ≡ some z → b ∷ f ≡ written-number m z
+    by : (m t : Bool) → eqb b 45 ≡ t → cond t (cond m (negative (natural f)) None) (option_map pos (natural (b ∷ f))) ≡ Some z → b ∷ f ≡ written-number m z
     by m false h e = plain m (natural (b ∷ f)) refl e
     by true true h e = below (natural f) refl (eqb-true b 45 h) e
     by false true h e = absurd (none_no_some e)
 
 -- ---- the bytes of a number, and how many they are
-digits_past : (n m : ℕ) (f : List ℕ) → digits_after n f ≡ some m → Past 44 f
+digits_past : (n m : ℕ) (f : List ℕ) → digits_after n f ≡ Some m → Past 44 f
 digits_past n m [] e = tt
 digits_past n m (b ∷ f) e =
     let o = first_digit n b f m e in
@@ -113,7 +114,7 @@ digits_past n m (b ∷ f) e =
 pub decimal_past : (n : ℕ) → Past 44 (decimal n)
 decimal_past n = by (decimal n) (decimal-read n)
   where
-    by : (f : List ℕ) → natural f ≡ some n → Past 44 f
+    by : (f : List ℕ) → natural f ≡ Some n → Past 44 f
     by [] e = tt
     by (b ∷ f) e = digits_past 0 n (b ∷ f) (natural-digits b f n e)
 

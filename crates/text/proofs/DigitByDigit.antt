@@ -3,7 +3,7 @@
 use mathlib.Core.Path.{◌≡◌, refl, sym, ap, ◌∙◌}
 use mathlib.Core.Bool.{Bool, true, false, cond, ◌&&◌}
 use mathlib.Core.List.{List, [], ◌∷◌, ◌++◌, reverse, reverse-cons, append-nil, append_assoc}
-use mathlib.Core.Option.{none, some}
+use Rattle.std.specs.Prelude.{None, Some}
 use Prim.Native.Nat.{ℕ, zero, suc, ◌+◌, ◌-◌, ◌*◌, ◌<◌}
 use native.Mathlib.Omega.{arith}
 use borrow.Author.Tests.{le-leb, leb-true, ne_eqb}
@@ -11,9 +11,7 @@ use lib.Dec.{eqb, leb}
 use Rattle.text.specs.Number.{digits_after, natural}
 use Rattle.text.specs.Write.{next, counted_digits, decimal}
 use Rattle.text.proofs.Digits.{natural-zero}
-
-pub none_no_some : {A : Type 0} {x : A} → none ≡ some x → ⊥
-none_no_some e = let clash : ◌≡◌ {A = ℕ} 0 1 = cc in omega arith
+use Rattle.text.proofs.Cap.{none_no_some}
 
 -- ---- the digits of n * 10 + d
 -- the digits of n, the last first, where 0 has none
@@ -57,13 +55,13 @@ pub record FirstDigit (n : ℕ) (b : ℕ) (f : List ℕ) (m : ℕ) : Type 0 wher
   pub d : ℕ
   pub small : d < 10
   pub byte : b ≡ 48 + d
-  pub rest : digits_after (n * 10 + d) f ≡ some m
+  pub rest : digits_after (n * 10 + d) f ≡ Some m
 
-pub first_digit : (n b : ℕ) (f : List ℕ) (m : ℕ) → digits_after n (b ∷ f) ≡ some m → FirstDigit n b f m
+pub first_digit : (n b : ℕ) (f : List ℕ) (m : ℕ) → digits_after n (b ∷ f) ≡ Some m → FirstDigit n b f m
 unfolding digits_after
 first_digit n b f m e = by (leb 48 b) (leb b 57) refl refl e
   where
-    by : (t u : Bool) → leb 48 b ≡ t → leb b 57 ≡ u → cond (t && u) (digits_after (n * 10 + (b - 48)) f) none ≡ some m → FirstDigit n b f m
+    by : (t u : Bool) → leb 48 b ≡ t → leb b 57 ≡ u → cond (t && u) (digits_after (n * 10 + (b - 48)) f) None ≡ Some m → FirstDigit n b f m
     by true true lo hi e =
         let l = leb-true 48 b lo in
         let h = leb-true b 57 hi in
@@ -77,14 +75,14 @@ digit_read n d f l =
     let back : 48 + d - 48 ≡ d = omega arith in
     rw (le-leb 48 (48 + d) (omega arith), le-leb (48 + d) 57 (omega arith), back)
 
-pub digits_more : (m q d : ℕ) (f : List ℕ) → d < 10 → digits_after m f ≡ some q → digits_after m (f ++ ((48 + d) ∷ [])) ≡ some (q * 10 + d)
+pub digits_more : (m q d : ℕ) (f : List ℕ) → d < 10 → digits_after m f ≡ Some q → digits_after m (f ++ ((48 + d) ∷ [])) ≡ Some (q * 10 + d)
 unfolding digits_after
 digits_more m q d [] l e = let same : m ≡ q = cc in rw (digit_read m d [] l, same)
 digits_more m q d (b ∷ f) l e =
     let o = first_digit m b f q e in
     rw o.byte (digit_read m o.d (f ++ ((48 + d) ∷ [])) o.small ∙ digits_more (m * 10 + o.d) q d f l o.rest)
 
-pub digits-written : (n m : ℕ) (f : List ℕ) → 0 < n → digits_after n f ≡ some m → decimal n ++ f ≡ decimal m
+pub digits-written : (n m : ℕ) (f : List ℕ) → 0 < n → digits_after n f ≡ Some m → decimal n ++ f ≡ decimal m
 unfolding digits_after
 digits-written n m [] l e = let same : n ≡ m = cc in append-nil (decimal n) ∙ ap decimal same
 digits-written n m (b ∷ f) l e =
@@ -95,14 +93,14 @@ digits-written n m (b ∷ f) l e =
     ∙ digits-written (n * 10 + o.d) m f (omega arith) o.rest)
 
 -- the digits of a number, and its first one
-pub natural-digits : (b : ℕ) (f : List ℕ) (n : ℕ) → natural (b ∷ f) ≡ some n → digits_after 0 (b ∷ f) ≡ some n
+pub natural-digits : (b : ℕ) (f : List ℕ) (n : ℕ) → natural (b ∷ f) ≡ Some n → digits_after 0 (b ∷ f) ≡ Some n
 unfolding natural
 natural-digits b [] n e = e
 natural-digits b (c ∷ f) n e = by (eqb b 48) e
   where
-    by : (t : Bool) → cond t none (digits_after 0 (b ∷ c ∷ f)) ≡ some n → digits_after 0 (b ∷ c ∷ f) ≡ some n
+    by : (t : Bool) → cond t None (digits_after 0 (b ∷ c ∷ f)) ≡ Some n → digits_after 0 (b ∷ c ∷ f) ≡ Some n
     by true e = absurd (none_no_some e)
     by false e = e
 
-pub no_zero : (b c : ℕ) (f : List ℕ) (n : ℕ) → natural (b ∷ c ∷ f) ≡ some n → b ≡ 48 → ⊥
+pub no_zero : (b c : ℕ) (f : List ℕ) (n : ℕ) → natural (b ∷ c ∷ f) ≡ Some n → b ≡ 48 → ⊥
 no_zero b c f n e h = none_no_some (sym (natural-zero (b ∷ c ∷ f) (omega arith) h) ∙ e)

@@ -1,16 +1,16 @@
 -- A line divided field by field: what is known once `count` fields are passed and the next one begins at `at`, how a further field
--- is passed, and what is known behind the last. Then a field of a divided line, in the code's terms.
+-- is passed, and what is known behind the last. The line is looked at byte by byte. Then a field of a divided line, in the code's terms.
 use mathlib.Core.Path.{◌≡◌, refl, sym, ap, ◌∙◌}
 use mathlib.Core.List.{List, []}
 use Prim.Native.Nat.{ℕ, zero, suc, ◌+◌, ◌-◌, ◌≤◌, ◌<◌}
 use native.Mathlib.Decide.{dec_lt}
 use native.Mathlib.Numerals.{add-one}
 use native.Mathlib.Omega.{arith}
-use lib.ListN.{length, get_or, set, take, drop, length-drop, get_or-eq_default}
+use lib.ListN.{length, replicate, get_or-replicate, get_or, set, take, drop, length-drop}
 use lib.Seq.{drop-drop, get_or-drop, get_or-set_same, get_or-set_other}
 use Rattle.text.specs.Split.{split}
 use Rattle.text.specs.Inner.Divided.{kept, begins, Between, Divided}
-use Rattle.text.proofs.Parts.{fields_at, fields-at-last, field-here}
+use Rattle.text.proofs.Parts.{until-on, until_here, until_most, fields_at, fields-at-last, field-here}
 use Rattle.text.specs.Inner.Divided.{until}
 
 pub record Passed (line : List ℕ) (count : ℕ) (ends : List ℕ) (at : ℕ) : Type 0 where
@@ -95,6 +95,64 @@ module _ (line : List ℕ) (count : ℕ) (ends next : List ℕ) (at end : ℕ)
       let one = ap length (passed.rest ∙ fields-at-last line at end found passed.inside h) in
       rw more (record { counted = omega (arith, length-drop count (split line)); between = between_next })
 
+-- ---- byte by byte: the line looked at up to i, with `count` commas
+-- no comma stands from `at`, where the next field begins, up to i; and an end that is not known yet is the line's
+pub record Scanned (line : List ℕ) (i count : ℕ) (ends : List ℕ) : Type 0 where
+  pub at : ℕ
+  pub passed : Passed line count ends at
+  pub reached : at ≤ i
+  pub clear : i ≤ at + until 44 (drop at line)
+  pub others : (k : ℕ) → count ≤ k → k < kept → get_or ends k 0 ≡ length line
+
+pub scan-start : (line : List ℕ) → Scanned line 0 0 (replicate kept (length line))
+scan-start line = record {
+  at = 0;
+  passed = none_passed line 0 (replicate kept (length line)) refl;
+  reached = omega arith;
+  clear = omega arith;
+  others = λ k l m. get_or-replicate kept k (length line) 0 m;
+}
+
+module _ (line : List ℕ) (i count : ℕ) (ends : List ℕ) (s : Scanned line i count ends) where
+  -- the byte at i, from where the next field begins
+  byte_is : get_or (drop s.at line) (i - s.at) 0 ≡ get_or line i 0
+  byte_is = let there : s.at + (i - s.at) ≡ i = omega (arith, s.reached) in get_or-drop s.at line (i - s.at) 0 ∙ ap (λ (n : ℕ). get_or line n 0) there
+
+  rest_long : i < length line → i - s.at < length (drop s.at line)
+  rest_long h = simp length-drop (omega (arith, s.reached))
+
+  pub scan-on : i < length line → (get_or line i 0 ≡ 44 → ⊥) → Scanned line (i + 1) count ends
+  scan-on h e =
+      let more = until-on 44 (drop s.at line) (i - s.at) (omega (arith, s.clear)) (rest_long h) (λ q. e (sym byte_is ∙ q)) in
+      record { at = s.at; passed = s.passed; reached = omega (arith, s.reached); clear = omega (arith, s.reached, more); others = s.others }
+
+  scan_comma : (next : List ℕ) → i < length line → get_or line i 0 ≡ 44 → EndStored ends next count i →
+      ((k : ℕ) → count < k → k < kept → get_or next k 0 ≡ length line) → Scanned line (i + 1) (count + 1) next
+  scan_comma next h e stored others =
+      let here = until_here 44 (drop s.at line) (i - s.at) (omega (arith, s.clear)) (rest_long h) (byte_is ∙ e) in
+      record {
+        at = i + 1;
+        passed = one_passed line count ends next s.at i s.passed stored (omega (arith, s.reached, here)) (omega arith) (count + 1) refl h;
+        reached = omega arith;
+        clear = omega arith;
+        others = λ k l m. others k (omega arith) m;
+      }
+
+  pub scan-stored : length ends ≡ kept → count < kept → i < length line → get_or line i 0 ≡ 44 → Scanned line (i + 1) (count + 1) (set ends count i)
+  scan-stored size few h e =
+      scan_comma (set ends count i) h e (end-room ends count i size few)
+      (λ k l m. get_or-set_other ends count k i 0 (λ q. omega arith) ∙ s.others k (omega arith) m)
+
+  pub scan-counted : kept ≤ count → i < length line → get_or line i 0 ≡ 44 → Scanned line (i + 1) (count + 1) ends
+  scan-counted many h e = scan_comma ends h e (no_room ends count i many) (λ k l m. absurd (omega arith))
+
+  pub scan-end : i ≡ length line → Divided line (count + 1) ends
+  scan-end e =
+      let most = until_most 44 (drop s.at line) in
+      let found : length line ≡ s.at + until 44 (drop s.at line) = omega (arith, s.clear, s.reached, simp length-drop at most) in
+      all_passed line count ends ends s.at (length line) s.passed
+      (record { here = λ l. s.others count (omega arith) l; before = λ k l m. refl }) found (omega arith) (count + 1) refl (omega arith)
+
 -- ---- a field of a divided line
 module _ (ends : List ℕ) (k : ℕ) where
   pub begins-first : k ≡ 0 → begins ends k ≡ 0
@@ -109,6 +167,3 @@ module _ (line ends : List ℕ) (k : ℕ) where
   pub field_cut : (start : ℕ) → begins ends k ≡ start → Between line ends k →
       take (get_or ends k 0 - start) (drop start line) ≡ get_or (split line) k []
   field_cut start starts f = rw starts at f.part
-
-  pub field-none : (count : ℕ) → Divided line count ends → count ≤ k → get_or (split line) k [] ≡ []
-  field-none count divided h = get_or-eq_default (split line) [] (omega arith)

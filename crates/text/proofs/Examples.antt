@@ -2,7 +2,7 @@
 use mathlib.Core.Path.{◌≡◌, refl}
 use mathlib.Core.Bool.{true, false}
 use mathlib.Core.List.{List, [], ◌∷◌, map}
-use mathlib.Core.Option.{Option, none, some}
+use Rattle.std.specs.Prelude.{Option, None, Some}
 use Prim.Native.Nat.{ℕ}
 use lib.IntN.{ℤ, pos, negsuc}
 use lib.ListN.{replicate}
@@ -34,19 +34,19 @@ fields_of line fs = record { says = divided (split line); ought = divided fs }
 abbrev pub number_cases : List NumberCase
 number_cases =
     -- 0, -0, 00, 01, -01, a minus alone, nothing, +1
-    signed (48 ∷ []) (some (pos 0))
-    ∷ signed (45 ∷ 48 ∷ []) none
-    ∷ unsigned (48 ∷ 48 ∷ []) none
-    ∷ unsigned (48 ∷ 49 ∷ []) none
-    ∷ signed (45 ∷ 48 ∷ 49 ∷ []) none
-    ∷ signed (45 ∷ []) none
-    ∷ signed [] none
-    ∷ signed (43 ∷ 49 ∷ []) none
+    signed (48 ∷ []) (Some (pos 0))
+    ∷ signed (45 ∷ 48 ∷ []) None
+    ∷ unsigned (48 ∷ 48 ∷ []) None
+    ∷ unsigned (48 ∷ 49 ∷ []) None
+    ∷ signed (45 ∷ 48 ∷ 49 ∷ []) None
+    ∷ signed (45 ∷ []) None
+    ∷ signed [] None
+    ∷ signed (43 ∷ 49 ∷ []) None
     -- -7 where a minus may stand and where it may not, 1000, ten to the power of 19
-    ∷ signed (45 ∷ 55 ∷ []) (some (negsuc 6))
-    ∷ unsigned (45 ∷ 55 ∷ []) none
-    ∷ unsigned (49 ∷ 48 ∷ 48 ∷ 48 ∷ []) (some (pos 1000))
-    ∷ unsigned (49 ∷ replicate 19 48) (some (pos 10000000000000000000))
+    ∷ signed (45 ∷ 55 ∷ []) (Some (negsuc 6))
+    ∷ unsigned (45 ∷ 55 ∷ []) None
+    ∷ unsigned (49 ∷ 48 ∷ 48 ∷ 48 ∷ []) (Some (pos 1000))
+    ∷ unsigned (49 ∷ replicate 19 48) (Some (pos 10000000000000000000))
     -- a,, has three fields, and nothing has one; two bytes 10 end two lines, and without a byte 10 the rest is a line
     ∷ fields_of (97 ∷ 44 ∷ 44 ∷ []) ((97 ∷ []) ∷ [] ∷ [] ∷ [])
     ∷ fields_of [] ([] ∷ [])

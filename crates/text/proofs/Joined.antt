@@ -54,7 +54,7 @@ lines-ended (l ∷ ls) (p, q) = parts_front 10 [] ls l (10 ∷ ended ls) p (ap (
 
 -- ---- what is split was joined
 no_nil : {A : Type 0} {x : A} {xs : List A} → x ∷ xs ≡ [] → ⊥
-no_nil e = let clash : ◌≡◌ {A = ℕ} 0 1 = cc in omega arith
+no_nil e = cc
 
 some-field : (line : List ℕ) → split line ≡ [] → ⊥
 unfolding split parts lead

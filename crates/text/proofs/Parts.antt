@@ -1,33 +1,73 @@
 -- Lines and fields at a place of a text. A text splits at its first byte c into the part before it and the parts behind it,
 -- and where no c is left, all of it is the last part. Lines and fields are these laws for bytes 10 and 44, at a place i
 -- and in the words of `end_of`: e is where the first c stands from i on, and `take (e - i) (drop i s)` is the part between.
-use mathlib.Core.Path.{◌≡◌, refl, ap}
+use mathlib.Core.Path.{◌≡◌, refl, sym, ap, ◌∙◌}
+use Rattle.std.proofs.Common.{one-add, All, ◌≢◌}
+use Rattle.std.proofs.lemmas.List.Elements.{All-head, All-tail}
 use mathlib.Core.Bool.{Bool, true, false, cond}
 use mathlib.Core.List.{List, [], ◌∷◌}
-use Prim.Native.Nat.{ℕ, suc, ◌+◌, ◌-◌, ◌≤◌, ◌<◌}
+use Prim.Native.Nat.{ℕ, zero, suc, ◌+◌, ◌-◌, ◌≤◌, ◌<◌}
 use native.Mathlib.Decide.{dec_le}
 use native.Mathlib.Omega.{arith}
-use native.Mathlib.Numerals.{add-one}
 use borrow.Author.Tests.{eq-eqb, ne_eqb}
 use lib.Dec.{eqb}
 use lib.ListN.{length, get_or, take, drop, length-drop, drop_of_length-le}
-use lib.Seq.{drop-cons, drop-drop, take_all}
+use lib.Seq.{drop-drop, take_all}
+use Rattle.std.proofs.lemmas.List.Recursion.{is_position_or_len}
+use Rattle.std.proofs.lemmas.List.Sums.{position_or_len_is}
 use Rattle.text.specs.Split.{lead, parts, lines, split}
 use Rattle.text.specs.Inner.Divided.{until}
 
 -- ---- the bytes before the first c
-module _ (c : ℕ) (s : List ℕ) (i : ℕ) where
-  pub until-here : i < length s → get_or s i 0 ≡ c → until c (drop i s) ≡ 0
-  unfolding until
-  until-here h e = rw (drop-cons s i 0, eq-eqb _ _ e)
+pub until_is : (c : ℕ) (s : List ℕ) (i : ℕ) → i ≤ length s →
+    ((k : ℕ) → k < i → eqb (get_or s k 0) c ≡ false) → (i < length s → eqb (get_or s i 0) c ≡ true) → until c s ≡ i
+unfolding until
+until_is c s i inside before here =
+    is_position_or_len (until c) (λ b. eqb b c) refl (λ x xs. ap (cond (eqb x c) 0) (sym (one-add (until c xs)))) s ∙ position_or_len_is (λ b. eqb b c) s i 0 inside before here
 
-  pub until-further : i < length s → (get_or s i 0 ≡ c → ⊥) → until c (drop i s) ≡ suc (until c (drop (i + 1) s))
-  unfolding until
-  until-further h e = rw (add-one, drop-cons s i 0, ne_eqb _ _ e)
+abbrev pub IsNot : ℕ → ℕ → Type 0
+IsNot c b = b ≢ c
 
-  pub until_end : length s ≤ i → until c (drop i s) ≡ 0
-  unfolding until
-  until_end h = rw (drop_of_length-le s h)
+pub until_none : (c : ℕ) (s : List ℕ) → All (IsNot c) s → until c s ≡ length s
+unfolding until
+until_none c [] none = refl
+until_none c (x ∷ xs) none = rw (ne_eqb x c (All-head (IsNot c) x xs none), until_none c xs (All-tail (IsNot c) x xs none))
+
+-- the first n bytes are none; the next is none either, or it is the first one
+pub until-on : (c : ℕ) (s : List ℕ) (n : ℕ) → n ≤ until c s → n < length s → (get_or s n 0 ≡ c → ⊥) → suc n ≤ until c s
+unfolding until
+until-on c [] n h l e = absurd (omega arith)
+until-on c (x ∷ xs) zero h l e = rw (ne_eqb x c e) (omega arith)
+until-on c (x ∷ xs) (suc n) h l e = by (eqb x c) h (until-on c xs n)
+  where
+    by : (t : Bool) → suc n ≤ cond t 0 (suc (until c xs)) →
+        (n ≤ until c xs → n < length xs → (get_or xs n 0 ≡ c → ⊥) → suc n ≤ until c xs) → suc (suc n) ≤ cond t 0 (suc (until c xs))
+    by true h more = absurd (omega arith)
+    by false h more = omega (arith, more (omega arith) (omega arith) e)
+
+pub until_here : (c : ℕ) (s : List ℕ) (n : ℕ) → n ≤ until c s → n < length s → get_or s n 0 ≡ c → until c s ≡ n
+unfolding until
+until_here c [] n h l e = absurd (omega arith)
+until_here c (x ∷ xs) zero h l e = rw (eq-eqb x c e)
+until_here c (x ∷ xs) (suc n) h l e = by (eqb x c) h (until_here c xs n)
+  where
+    by : (t : Bool) → suc n ≤ cond t 0 (suc (until c xs)) →
+        (n ≤ until c xs → n < length xs → get_or xs n 0 ≡ c → until c xs ≡ n) → cond t 0 (suc (until c xs)) ≡ suc n
+    by true h here = absurd (omega arith)
+    by false h here = ap suc (here (omega arith) (omega arith) e)
+
+pub until_most : (c : ℕ) (s : List ℕ) → until c s ≤ length s
+unfolding until
+until_most c [] = omega arith
+until_most c (x ∷ xs) = by (eqb x c) (until_most c xs)
+  where
+    by : (t : Bool) → until c xs ≤ length xs → cond t 0 (suc (until c xs)) ≤ suc (length xs)
+    by true h = omega arith
+    by false h = omega arith
+
+pub until_end : (c : ℕ) (s : List ℕ) (i : ℕ) → length s ≤ i → until c (drop i s) ≡ 0
+unfolding until
+until_end c s i h = rw (drop_of_length-le s h)
 
 -- ---- the first part, and the parts behind it
 module _ (c : ℕ) (end : List (List ℕ)) where

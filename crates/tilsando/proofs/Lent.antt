@@ -12,13 +12,11 @@ use Rattle.flow.specs.Read.{read_flow}
 use Rattle.flow.specs.Refusals.{number_of}
 use Rattle.flow.specs.declared.Refusal.{Refusal}
 use Rattle.flow.specs.declared.Refusal.TheVariants.{TooLong, NoLastEnd, UnknownWord, WrongCount, BadNumber, OutOfRange, OutOfTurn, NoSuchTarget, TooManyLines, NoInstruction, TooFewCells, ShortRow, NoSuchExit, WrongTapes}
-use Rattle.sample.specs.declared.SampleEnd as SampleEnds
+use Rattle.std.specs.Prelude.{Option, Some, Result, Ok, Err}
 use Rattle.sample.specs.declared.SampleAnswer.{SampleAnswer}
-use Rattle.flow_bound.specs.declared.BoundAnswer.TheVariants.{AtMost}
 use Rattle.tape_maker.specs.Bound.{bound_in}
 use Rattle.tape_maker.specs.Report.{ReportIs}
 use Rattle.tape_maker.specs.Sample.{SampleIs}
-use Rattle.tape_maker.specs.declared.ReportEnd.{ReportEnd}
 use Rattle.tape_maker.specs.declared.ReportAnswer.{ReportAnswer}
 use Rattle.tape_maker.proofs.BoundLaws.{bound_report, bound-sample}
 use Rattle.tilsando.specs.Exports.{Told, report_values, sample_values, ReportTold, SampleTold}
@@ -41,28 +39,28 @@ named ShortRow = ((λ e. absurd (omega arith)), (λ e. refl))
 named NoSuchExit = ((λ e. absurd (omega arith)), (λ e. absurd (omega arith)))
 named WrongTapes = ((λ e. absurd (omega arith)), (λ e. absurd (omega arith)))
 
-module _ (text : List ℕ) (n : ℕ) (e : bound_in (read_flow text) ≡ AtMost n) where
-  pub report_returned : {cells cells' : List (List ℕ)} {a : ReportAnswer} (rows rows' : List (List ℕ)) (returned : ℕ) → n ≤ length cells
+module _ (text : List ℕ) (n : ℕ) (e : bound_in (read_flow text) ≡ Ok (Some n)) where
+  pub report_returned : {cells cells' : List (List ℕ)} {a : Result ReportAnswer Refusal} (rows rows' : List (List ℕ)) (returned : ℕ) → n ≤ length cells
       → ReportIs text cells cells' a → ReportTold a rows rows' returned → returned ≡ 0
   unfolding Told
   report_returned {a = a} rows rows' returned h is told =
       let sizes = max_instructions ∷ max_instructions ∷ max_instructions ∷ 2 ∷ [] in
-      (subst (λ (end : ReportEnd). Told sizes (report_values a end) rows rows' returned) (bound_report text n e a h is).0 told).0
+      let (report, given, _) = bound_report text n e a h is in
+      (subst (λ (r : Result ReportAnswer Refusal). Told sizes (report_values r) rows rows' returned) given told).0
 
-  pub sample_returned : {i : ℕ} {exit : Bool} {cells cells' : List (List ℕ)} {row row' : List ℤ} {a : SampleAnswer}
+  pub sample_returned : {i : ℕ} {exit : Bool} {cells cells' : List (List ℕ)} {row row' : List ℤ} {a : Result (Option SampleAnswer) Refusal}
       (rows rows' : List (List ℕ)) (returned : ℕ) → n ≤ length cells → SampleIs text i exit cells cells' row row' a → SampleTold a rows rows' returned
       → (returned % 256 ≡ 9 → ⊥) × (n ≤ length row → returned % 256 ≡ 10 → ⊥)
   unfolding Told
-  sample_returned {row = row} {a = a} rows rows' returned h is told = by a.end refl told
+  sample_returned {row = row} {a = a} rows rows' returned h is told = by a refl told
     where
-      by : (end : SampleEnds.SampleEnd) → a.end ≡ end → Told ((2 + max_tapes) ∷ []) (sample_values a end) rows rows' returned
+      by : (r : Result (Option SampleAnswer) Refusal) → a ≡ r → Told ((2 + max_tapes) ∷ []) (sample_values r) rows rows' returned
           → (returned % 256 ≡ 9 → ⊥) × (n ≤ length row → returned % 256 ≡ 10 → ⊥)
-      by SampleEnds.TheVariants.Taken q t = let z = t.0 in ((λ x. omega arith), (λ k x. omega arith))
-      by SampleEnds.TheVariants.Never q t = let z = t.0 in ((λ x. omega arith), (λ k x. omega arith))
-      by (SampleEnds.TheVariants.Refused why) q t =
+      by (Ok sample) q t = let z = t.0 in ((λ x. omega arith), (λ k x. omega arith))
+      by (Err why) q t =
           let (few, short) = bound-sample text n e a h is in
           let number : returned % 256 ≡ number_of why = ap (λ (c : ℕ). c % 256) t.0 ∙ (code_parts why).2 in
-          let refusal : (w : Refusal) → why ≡ w → a.end ≡ SampleEnds.TheVariants.Refused w = λ w s. q ∙ ap SampleEnds.TheVariants.Refused s in (
+          let refusal : (w : Refusal) → why ≡ w → a ≡ Err w = λ w s. q ∙ ap Err s in (
             (λ x. few (refusal TooFewCells ((named why).0 (sym number ∙ x)))),
             (λ k x. short k (refusal ShortRow ((named why).1 (sym number ∙ x)))),
           )

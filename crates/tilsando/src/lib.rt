@@ -6,9 +6,10 @@
 mod rows; // rows.rt: values into the first cells of a lent row
 mod told; // told.rt: an answer in rows, or a refusal in one number
 
-ghost use Rattle.std.specs.Prelude.{◌≡◌, [], ◌∷◌, length};
+ghost use Rattle.std.specs.Prelude.{◌≡◌, [], ◌∷◌, length, Option, Result};
 ghost use Rattle.sample_row.specs.Part.{span_of};
 ghost use Rattle.flow.specs.Read.{read_flow};
+ghost use Rattle.flow.specs.declared.Refusal.{Refusal};
 ghost use Rattle.tape_maker.specs.Bound.{bound_in};
 ghost use Rattle.tape_maker.specs.Run.{requested, RunIs};
 ghost use Rattle.tape_maker.specs.Report.{ReportIs};
@@ -33,7 +34,7 @@ pub extern "C" fn tilsando_run(
     m: &mut [u32],
     answer: &mut [u64],
 ) -> u32
-    ensures { (a : RunAnswer)
+    ensures { (a : Result RunAnswer Refusal)
         × RunIs (requested text.now limit records.now lengths.now numbers.old values.old)
         numbers.old numbers.new values.old values.new a
         × RunTold a (p.old ∷ m.old ∷ answer.old ∷ [])
@@ -53,7 +54,8 @@ pub extern "C" fn tilsando_report(
     m: &mut [u32],
     answer: &mut [u64],
 ) -> u32
-    ensures { (a : ReportAnswer) × ReportIs text.now cells.old cells.new a
+    ensures { (a : Result ReportAnswer Refusal)
+        × ReportIs text.now cells.old cells.new a
         × ReportTold a (two.old ∷ p.old ∷ m.old ∷ answer.old ∷ [])
         (two.new ∷ p.new ∷ m.new ∷ answer.new ∷ []) result }
 {
@@ -80,7 +82,7 @@ pub extern "C" fn tilsando_sample(
     row: &mut [i32],
     answer: &mut [u64],
 ) -> u32
-    ensures { (a : SampleAnswer)
+    ensures { (a : Result (Option SampleAnswer) Refusal)
         × SampleIs text.now instruction (wants_p exit) cells.old cells.new row.old row.new a
         × SampleTold a (answer.old ∷ []) (answer.new ∷ []) result }
 {
@@ -101,6 +103,6 @@ pub extern "C" fn tilsando_tape(
 {
     let span = sample_row::span_of(row, lengths, tape);
     let numbers = [span.start as u64, span.count as u64];
-    rows::lay_numbers(answer, &numbers);
+    rows::lay(answer, &numbers);
     0
 }

@@ -2,8 +2,8 @@
 use Rattle.cells.proofs.Entering.{filled_none, begun_filled}
 use Rattle.cells.proofs.begin.Goals as goal
 
-pub add-requires : goal.add-requires
-add-requires c = record { filled_in = filled_none c.args.cells.now _ c.requires.size_nonzero c.requires.size_bound; count_lt_size = c.requires.size_nonzero }
+pub add-requires-clause-filled_in : goal.add-requires-clause-filled_in
+add-requires-clause-filled_in c = filled_none _ _ c.requires.size_nonzero c.requires.size_bound
 
 pub returns : goal.returns
 returns c = begun_filled c.args.cells.now _ (filled_none c.args.cells.now _ c.requires.size_nonzero c.requires.size_bound) c.requires.size_nonzero

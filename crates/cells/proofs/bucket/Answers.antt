@@ -5,14 +5,11 @@ use native.Mathlib.Nat.{mod-lt}
 use native.Mathlib.Omega.{arith}
 use Rattle.cells.specs.Inner.Columns.{half}
 use Rattle.cells.specs.Inner.Index.{fold_of, bucket_of}
-use Rattle.cells.proofs.Buckets.{half-word, steps-few, scaled_below, scaled_fits}
+use Rattle.cells.proofs.Buckets.{half-word, steps-few, scaled_below}
 use Rattle.cells.proofs.bucket.Goals as goal
 
 pub overflow_mul-fold : goal.overflow_mul-fold
 overflow_mul-fold c = record { fits = omega (arith, half-word _ _ c.fold.ensures) }
-
-pub overflow_mul-lane : goal.overflow_mul-lane
-overflow_mul-lane c = let a = c.args in record { fits = omega (arith, steps-few a.pattern a.size) }
 
 pub overflow_add-spread : goal.overflow_add-spread
 overflow_add-spread c = record { fits = omega (arith, half-word _ _ c.fold-mixed.ensures) }
@@ -20,9 +17,6 @@ overflow_add-spread c = record { fits = omega (arith, half-word _ _ c.fold-mixed
 pub overflow_add-spread-2 : goal.overflow_add-spread-2
 overflow_add-spread-2 c = let a = c.args in
     record { fits = omega (arith, steps-few a.pattern a.size, half-word _ _ c.fold-mixed.ensures) }
-
-pub overflow_mul-result : goal.overflow_mul-result
-overflow_mul-result c = scaled_fits _ _ (mod-lt _ (omega arith)) c.requires.1
 
 pub returns : goal.returns
 unfolding bucket_of

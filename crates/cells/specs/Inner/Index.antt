@@ -1,10 +1,8 @@
 -- The index of the stored nodes, by chained hashing.
-use Rattle.std.specs.Prelude.{◌≡◌, List, ℕ, ◌+◌, ◌*◌, ◌/◌, ◌%◌, ◌≤◌, ◌<◌, length, get_or}
+use Rattle.std.specs.Prelude.{◌≡◌, List, ℕ, ◌+◌, ◌*◌, ◌/◌, ◌%◌, ◌≤◌, ◌<◌, length, get_or, Option, Some, None}
 use Rattle.std.specs.Int.Bits.{bit_xor}
 use Rattle.cells.specs.Cells.{most_cells}
 use Rattle.cells.specs.Inner.Columns.{half}
-use Rattle.cells.specs.declared.Found.{Found}
-use Rattle.cells.specs.declared.Found.TheVariants.{At, Nothing}
 
 -- a node is two words
 pub record Node : Type 0 where
@@ -58,6 +56,6 @@ abbrev pub Missing : List ℕ → List ℕ → ℕ → Node → Type 0
 Missing places patterns count x = (j : ℕ) → j < count → node_at places patterns j ≡ x → ⊥
 
 -- what is found of x among the first count entries
-unfoldable pub FoundIs : List ℕ → List ℕ → ℕ → Node → Found → Type 0
-FoundIs places patterns count x (At i) = (i < count) × (node_at places patterns i ≡ x)
-FoundIs places patterns count x Nothing = Missing places patterns count x
+unfoldable pub FoundIs : List ℕ → List ℕ → ℕ → Node → Option ℕ → Type 0
+FoundIs places patterns count x (Some i) = (i < count) × (node_at places patterns i ≡ x)
+FoundIs places patterns count x None = Missing places patterns count x

@@ -18,5 +18,5 @@ returns-then-d-lt0 c = offsets.gap_nothing _ _ c.ranges.c c.ranges.lo c.if-d-lt0
 pub overflow_cast-result : goal.overflow_cast-result
 overflow_cast-result c = offsets.gap_cast _ _ c.ranges.c c.ranges.lo c.if-d-lt0.false
 
-pub returns : goal.returns
-returns c = offsets.gap_offset _ _ c.ranges.c c.ranges.lo c.if-d-lt0.false
+pub returns-else-d-lt0 : goal.returns-else-d-lt0
+returns-else-d-lt0 c = offsets.gap_offset _ _ c.ranges.c c.ranges.lo c.if-d-lt0.false

@@ -1,24 +1,15 @@
 -- What the code keeps of a line and answers on its parts. The number of a line and the counts of line 1 are kept in a byte, the numbers of a row
 -- up to 100,000: a larger one is given as one that is past every range too, so that it changes no answer (proofs/ClampLaws.antt).
-use Rattle.std.specs.Prelude.{cond, List, ◌++◌, map, ℕ, min, ◌-◌, ◌≤◌, ℤ, pos, negsuc, length, replicate}
-use Rattle.std.proofs.Math.Option.{Option, none, some}
+use Rattle.std.specs.Prelude.{cond, map, ℕ, min, ◌≤◌, ℤ, pos, negsuc}
 use Rattle.std.specs.Int.Signed.{lt_z}
 use Rattle.model.specs.Language.{Instruction, Field, tape, output, variable, target, constant}
 use Rattle.flow.specs.Limits.{max_tapes, max_outputs, max_variables}
-use Rattle.flow.specs.Read.{Checked, ok, fault}
-use Rattle.flow.specs.declared.Kind.{Kind}
 use Rattle.flow.specs.declared.Sort.{Sort}
 use Rattle.flow.specs.declared.Sort.TheVariants.{Target, Tape, Output, Variable, Constant}
 use Rattle.flow.specs.Words.{count}
 use Rattle.flow.specs.Code.{kind, numbers, row}
 use Rattle.flow.specs.declared.Head.{Head}
 use Rattle.flow.specs.declared.Instruction.{Instruction as Row}
-use Rattle.flow.specs.declared.Headed.{Headed}
-use Rattle.flow.specs.declared.Headed.TheVariants.{Heads, Fault}
-use Rattle.flow.specs.declared.rows.Range.{Range}
-use Rattle.flow.specs.declared.rows.Range.TheVariants.{Any, Within}
-use Rattle.flow.specs.declared.words.Word.{Word}
-use Rattle.flow.specs.declared.words.Word.TheVariants.{Known, Unknown}
 
 abbrev pub small : ℕ → ℕ
 small n = min n 255
@@ -30,16 +21,6 @@ bounded z = cond (lt_z z (negsuc 99999)) (negsuc 99999) (cond (lt_z (pos 100000)
 abbrev pub clamped : Instruction → Row
 clamped x = row (kind x) (map bounded (numbers x))
 
--- the code's answer for a word
-abbrev pub kind_in : Word → Option Kind
-kind_in (Known k) = some k
-kind_in Unknown = none
-
--- the code's range of a number
-abbrev pub range_in : Range → Option (ℤ × ℤ)
-range_in Any = none
-range_in (Within lo hi) = some (lo, hi)
-
 -- the field of a sort that holds a number
 abbrev pub field : Sort → ℤ → Field
 field Tape z = tape (count z)
@@ -48,17 +29,9 @@ field Variable z = variable (count z)
 field Target z = target (count z)
 field Constant z = constant z
 
--- a row has four numbers, and the code holds four sorts; those past the kind's own fields do not count
+-- a row has four numbers
 abbrev pub max_numbers : ℕ
 max_numbers = 4
-
-abbrev pub four : List Sort → List Sort
-four ss = ss ++ replicate (max_numbers - length ss) Target
-
--- the code's answer for line 1
-abbrev pub head_in : Headed → Checked Head
-head_in (Heads h) = ok h
-head_in (Fault r) = fault r
 
 -- the counts of a line 1 that was read
 pub record HeadFits (h : Head) : Type 0 where

@@ -1,14 +1,15 @@
--- `flow_bound::tape_sets` meets its contract.
+-- `tape_sets` meets its contract: one, two or three tapes.
+use mathlib.Core.Path.{◌≡◌, refl}
+use Prim.Native.Nat.{ℕ, zero, suc, ◌*◌, ◌%◌, ◌^◌, ◌≤◌}
 use native.Mathlib.Omega.{arith}
-use borrow.Author.Rules.{rules}
-use Rattle.flow_bound.proofs.CapLaws.{power_at}
 use Rattle.flow_bound.proofs.tape_sets.Goals as goal
 
-pub returns-then-t-eq1 : goal.returns-then-t-eq1
-returns-then-t-eq1 c = (power_at c.args.t 1 (search rules), search rules)
-
-pub returns-then-t-eq2 : goal.returns-then-t-eq2
-returns-then-t-eq2 c = (power_at c.args.t 2 (search rules), search rules)
+sets : (t : ℕ) → 1 ≤ t → t ≤ 3 → (1 * 2 ^ t % 18446744073709551616 ≡ 2 ^ t) × (1 * 2 ^ t % 18446744073709551616 ≤ 8)
+sets zero h k = absurd (omega arith)
+sets (suc zero) h k = (refl, omega arith)
+sets (suc (suc zero)) h k = (refl, omega arith)
+sets (suc (suc (suc zero))) h k = (refl, omega arith)
+sets (suc (suc (suc (suc t)))) h k = absurd (omega arith)
 
 pub returns : goal.returns
-returns c = (omega (arith, power_at c.args.t 3 (search rules)), search rules)
+returns c = sets c.args.t c.requires.0 c.requires.1

@@ -1,5 +1,5 @@
 -- `outside_row::key` meets its contract: k is the key of the ranks from the i-th on (proofs/Keys.antt). The measure is i.
-use mathlib.Core.Path.{◌≡◌, ap, ◌∙◌}
+use mathlib.Core.Path.{◌≡◌, ◌∙◌}
 use mathlib.Core.List.{[]}
 use Prim.Native.Nat.{ℕ, ◌+◌, ◌*◌, ◌-◌, ◌<◌}
 use native.Mathlib.Omega.{arith}
@@ -17,20 +17,20 @@ key-small v n i is =
     key_below (drop i l) (all_drop i l (listed_eight v n is)) (omega (arith, length-drop i l, listed_width v n is, is.few))
 
 below : (c : In-loop-i) → c.loop-i.i - 1 < c.args.v
-below c = omega (arith, c.loop-i.invariant.0, c.loop-i-test.true)
+below c = omega (arith, c.loop-i.auto.i, c.loop-i-test.true)
 
 more : (c : After-number) → let a = c.args in 8 * c.loop-i.k + c.number.result ≡ key_of (drop (c.loop-i.i - 1) (get_or (entries_for a.v) a.n []))
 more c =
     let inv = c.loop-i.invariant in
-    key_more _ c.loop-i.i (c.loop-i.i - 1) _ _ (omega (arith, c.loop-i-test.true)) (omega (arith, listed_width _ _ c.requires.has_entry, below c.before.before)) inv.1
+    key_more _ c.loop-i.i (c.loop-i.i - 1) _ _ (omega (arith, c.loop-i-test.true)) (omega (arith, listed_width _ _ c.requires.has_entry, below c.before.before)) inv
     (c.number.ensures ∙ read_number _ _ _ c.requires.has_entry (below c.before.before) c.args.ranks.now c.requires.ranks_value)
 
 -- ---- the needs
 pub loop-i-init : goal.loop-i-init
-loop-i-init c = (omega arith, key-end _ _ (listed_width _ _ c.requires.has_entry))
+loop-i-init c = key-end _ _ (listed_width _ _ c.requires.has_entry)
 
 pub overflow_mul-k : goal.overflow_mul-k
-overflow_mul-k c = record { fits = omega (arith, c.loop-i.invariant.1, key-small _ _ c.loop-i.i c.requires.has_entry) }
+overflow_mul-k c = record { fits = omega (arith, c.loop-i.invariant, key-small _ _ c.loop-i.i c.requires.has_entry) }
 
 pub overflow_mul-v : goal.overflow_mul-v
 overflow_mul-v c = record { fits = omega (arith, product_few _ _ c.requires.has_entry) }
@@ -48,9 +48,4 @@ pub overflow_add-k : goal.overflow_add-k
 overflow_add-k c = record { fits = omega (arith, more (goal.at.overflow_add-k c).After-number, key-small _ _ (c.loop-i.i - 1) c.requires.has_entry) }
 
 pub loop-i-preserved : goal.loop-i-preserved
-loop-i-preserved c = (omega (arith, below (goal.at.loop-i-preserved c).In-loop-i), more (goal.at.loop-i-preserved c).After-number)
-
-pub returns : goal.returns
-returns c = let a = c.args in
-    let last : c.loop-i.i ≡ 0 = omega (arith, c.loop-i-test.false) in
-    c.loop-i.invariant.1 ∙ ap (λ (i : ℕ). key_of (drop i (get_or (entries_for a.v) a.n []))) last
+loop-i-preserved c = more (goal.at.loop-i-preserved c).After-number

@@ -100,12 +100,6 @@ unfoldable pub word_of : (w : ℕ) → List ℕ → ℕ
 word_of w values = undigits lane (store_of w (codes_of w values))
 
 -- ---- what a search does with a pattern word
--- the position number of a value: 0 below C1, 1 from C1 to C2, 2 above C2
-unfoldable pub position_of : Mark → ℕ
-position_of (below k) = 0
-position_of (inside z) = 1
-position_of (above k) = 2
-
 -- whether the value of code c is less than that of code d: the nine cases of their marks. C1 is taken as 0; any other that a flow
 -- can have gives the same (proofs/Marks.antt, `less-any-lo`)
 unfoldable pub less_of : (w c d : ℕ) → Bool

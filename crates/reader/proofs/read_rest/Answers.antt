@@ -1,24 +1,37 @@
 -- `reader::read_rest` meets its contract.
-use mathlib.Core.Path.{sym, ap, ◌∙◌}
-use lib.ListN.{take}
-use Rattle.reader.specs.Inner.Lines.{answered, lines_in}
-use Rattle.flow.specs.declared.Answer.{Answer}
-use Rattle.reader.proofs.FlowLaws.{finished-is, rest_fault}
+use mathlib.Core.Path.{sym, ◌∙◌}
+use native.Mathlib.Omega.{arith}
+use borrow.Author.Tests.{le-leb}
+use Rattle.text.specs.Split.{lines}
+use Rattle.reader.proofs.FlowLaws.{rest_fault, rest_judged, rest_sizes}
+use Rattle.reader.proofs.LineLaws.{left_by}
 use Rattle.reader.proofs.read_rest.Goals as goal
 
-pub returns-in-Refused : goal.returns-in-Refused
-unfolding lines_in answered
-returns-in-Refused c = let a = c.args in let r = c.read_lines-read.result in
-    c.refused.ensures
-    ∙ rest_fault a.head _ _ (sym (ap (λ (x : Answer). answered x (take r.count r.rows)) c.in-Refused.is) ∙ c.read_lines-read.ensures.result_value)
+pub returns-in_err-flow : goal.returns-in_err-flow
+returns-in_err-flow c = left_by _ c.from_residual.ensures.1 ∙ rest_fault c.args.head c.requires (lines c.args.rest.now) _ (sym c.in_err-flow.ensures)
 
-pub returns-in-Legal : goal.returns-in-Legal
-unfolding lines_in answered
-returns-in-Legal c = let r = c.read_lines-read.result in
-    c.finish.ensures.0
-    ∙ finished-is c.args.head c.requires.1 _ r.count r.rows c.finish.ensures.1 c.read_lines-read.ensures.count_le_max_instructions.0
-    (sym (ap (λ (x : Answer). answered x (take r.count r.rows)) c.in-Legal.is) ∙ c.read_lines-read.ensures.result_value)
-    c.read_lines-read.ensures.count_le_max_instructions.1
+pub returns-then-flow-eq0 : goal.returns-then-flow-eq0
+returns-then-flow-eq0 c = rw (rest_judged c.args.head c.requires (lines c.args.rest.now) c.in_ok-flow.ensures, c.if-flow-eq0.true)
 
-pub finish-requires : goal.finish-requires
-finish-requires c = c.read_lines-read.ensures.count_le_max_instructions.0
+pub shared_ref_as_front-check_targets : goal.shared_ref_as_front-check_targets
+shared_ref_as_front-check_targets c = (rest_sizes c.args.head c.requires (lines c.args.rest.now) c.in_ok-flow.ensures).0
+
+pub check_targets-requires : goal.check_targets-requires
+check_targets-requires c = (rest_sizes c.args.head c.requires (lines c.args.rest.now) c.in_ok-flow.ensures).1
+
+pub returns-in_err-check_targets : goal.returns-in_err-check_targets
+returns-in_err-check_targets c =
+    left_by _ c.from_residual-in_err-check_targets.ensures.1
+    ∙ rw (
+      rest_judged c.args.head c.requires (lines c.args.rest.now) c.in_ok-flow.ensures,
+      le-leb 1 c.in_ok-flow.flow.count (omega arith),
+      ← c.in_err-check_targets.ensures,
+    )
+
+pub returns : goal.returns
+returns c =
+    rw (
+      rest_judged c.args.head c.requires (lines c.args.rest.now) c.in_ok-flow.ensures,
+      le-leb 1 c.in_ok-flow.flow.count (omega arith),
+      ← c.in_ok-check_targets.ensures,
+    )

@@ -7,22 +7,18 @@ use Rattle.render.proofs.Lines.{lines_next, lines-last}
 use Rattle.render.proofs.all_exits.Goals as goal
 
 pub loop-i-init : goal.loop-i-init
-loop-i-init c = (omega arith, omega arith, refl, λ row r p. p)
+loop-i-init c = (omega arith, refl, λ row r p. p)
 
 pub loop-i-preserved : goal.loop-i-preserved
-loop-i-preserved c = let a = c.args in
+loop-i-preserved c = let r = c.args.r.now in
     let l = c.loop-i in
-    let next = lines_next a.two a.p a.m 64 l.i (omega arith) in (
-      omega arith,
+    let next = lines_next r.two r.p r.m 64 l.i (omega arith) in (
       search rules,
       search rules,
-      λ row r q. l.invariant.3 row r (rw next (put_both c.exit_lines-end.ensures.0 q)),
+      λ row end q. l.invariant.2 row end (rw next (put_both c.exit_lines-end.ensures.0 q)),
     )
 
 pub returns : goal.returns
-returns c = let a = c.args in
+returns c = let r = c.args.r.now in
     let l = c.loop-i in
-    (l.invariant.3 l.out l.end (rw (lines-last a.two a.p a.m 64 l.i (omega arith)) (put-none l.out l.end)), omega arith)
-
-pub shape_of-out : goal.shape_of-out
-shape_of-out c = c.loop-i.invariant.2
+    (l.invariant.2 l.out l.end (rw (lines-last r.two r.p r.m 64 l.i (omega arith)) (put-none l.out l.end)), omega arith)

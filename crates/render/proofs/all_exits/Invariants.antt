@@ -10,10 +10,7 @@ use Rattle.render.proofs.all_exits.Given as goal
 
 abbrev pub invariant-loop-i : goal.invariant-loop-i
 invariant-loop-i l =
-    (l.i ≤ 64)
-    × (l.end ≤ l.at + 32 * l.i)
+    (l.end ≤ l.at + 32 * l.i)
     × (length l.out ≡ length l.initial.out)
-    × ((row : List ℕ) (r : ℕ) → Put (ended (exit_lines_from l.i (64 - l.i) l.two l.p l.m)) l.out l.end row r → Put (ended (exit_lines_from 0 64 l.two l.p l.m)) l.initial.out l.at row r)
-
-abbrev pub decreases-loop-i : goal.decreases-loop-i
-decreases-loop-i l = 64 - l.i
+    × ((row : List ℕ) (r : ℕ) → Put (ended (exit_lines_from l.i (64 - l.i) l.r.two l.r.p l.r.m)) l.out l.end row r
+    → Put (ended (exit_lines_from 0 64 l.r.two l.r.p l.r.m)) l.initial.out l.at row r)

@@ -4,11 +4,6 @@ use Rattle.text.proofs.Decimal.{decimal-short}
 use Rattle.render.proofs.Digits.{decimal_taken}
 use Rattle.render.proofs.number.Goals as goal
 
-pub copy-requires : goal.copy-requires
-copy-requires c = let n = c.args.n in
-    let d = c.decimal-k in
-    rw (decimal_taken d.result n d.new.out d.ensures.len d.ensures.digits) (omega (arith, decimal-short 19 n (omega arith)))
-
 pub returns : goal.returns
 returns c = let n = c.args.n in
     let d = c.decimal-k in

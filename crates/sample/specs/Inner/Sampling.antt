@@ -1,5 +1,5 @@
 -- The way through a finished table that a sample follows, and what is left in the row.
-use Rattle.std.specs.Prelude.{◌≡◌, Bool, true, List, ℕ, suc, ◌+◌, ◌-◌, ◌<◌, ◌≤◌, ℤ, length, get_or, drop, T}
+use Rattle.std.specs.Prelude.{◌≡◌, Option as Found, Bool, true, List, ℕ, suc, ◌+◌, ◌-◌, ◌<◌, ◌≤◌, ℤ, length, get_or, drop, T}
 use Rattle.std.proofs.Math.Option.{Option}
 use Rattle.std.specs.Int.Signed.{le_z}
 use Rattle.model.specs.Language.{Flow, instruction, has_exits, C1, C2}
@@ -19,13 +19,13 @@ use Rattle.configuration.specs.Inner.Fits.{FlowFits, ProperWords}
 use Rattle.cells.specs.Inner.Columns.{place_field, pattern_field, distance_field, way_field, column, word_column}
 use Rattle.cells.specs.Inner.Entries.{Entries}
 use Rattle.cells.specs.Inner.Way.{Parents}
-use Rattle.cells.specs.declared.Found.{Found}
 use Rattle.search_table.specs.Inner.Table.{Complete}
 use Rattle.search_table.specs.Inner.Passes.{blank, Prepared, Walkable, takes_at, FirstIs}
 use Rattle.search_table.specs.Inner.Way.{place_on, Passable, op_on, counted_of, reads_on}
 use Rattle.sample_row.specs.Inner.Reading.{tapes_written}
 use Rattle.sample_row.specs.Inner.WalkFits.{WalkFits}
 use Rattle.sample_row.specs.declared.Walk.{Walk}
+use Rattle.sample.specs.declared.Program.{Program}
 use Rattle.sample.specs.Written.{Written}
 
 -- a way of so many steps: the rows of the table, the row that holds the way, the prepared instructions, and C1 and C2
@@ -45,8 +45,9 @@ course places patterns distances path steps ops w lo hi =
     record { places = places; patterns = patterns; distances = distances; path = path; steps = steps; ops = ops; w = w; lo = lo; hi = hi }
 
 -- the way that the cells hold
-abbrev pub course_in : (c : List (List ℕ)) (steps : ℕ) (ops : List Op) (w : ℕ) (lo hi : ℤ) → Course
-course_in c = course (word_column place_field c) (word_column pattern_field c) (column distance_field c) (column way_field c)
+abbrev pub course_in : (c : List (List ℕ)) (steps w : ℕ) → Program → Course
+course_in c steps w p =
+    course (word_column place_field c) (word_column pattern_field c) (column distance_field c) (column way_field c) steps p.ops w p.lo p.hi
 
 -- the words at place t of the way, the instruction of step t, and how many records of each tape the first t steps take
 abbrev pub words_along : Course → ℕ → Words
@@ -114,12 +115,12 @@ WrittenBy k flow exit old row lengths = Written k.lo k.hi flow (end_of k) (exit_
 -- ---- the table that a way is taken from
 -- a finished table of n entries of a flow, with its instructions prepared, C1 and C2, and room for the way to an entry; instruction i has two
 -- exits
-pub record Tabled (flow : Flow) (e : Entries) (n room : ℕ) (ops : List Op) (w : ℕ) (lo hi : ℤ) (i : ℕ) : Type 0 where
+pub record Tabled (flow : Flow) (e : Entries) (n room w : ℕ) (p : Program) (i : ℕ) : Type 0 where
   pub legal : Legal flow
   pub width : w ≡ width_of (C1 flow) (C2 flow)
-  pub low : lo ≡ C1 flow
-  pub high : hi ≡ C2 flow
-  pub prepared : Prepared (C1 flow) flow ops
+  pub low : p.lo ≡ C1 flow
+  pub high : p.hi ≡ C2 flow
+  pub prepared : Prepared (C1 flow) flow p.ops
   pub complete : Complete (C1 flow) w flow e n
   pub parents : Parents e.parents n
   pub walkable : Walkable e.places e.patterns e.distances n
@@ -127,5 +128,5 @@ pub record Tabled (flow : Flow) (e : Entries) (n room : ℕ) (ops : List Op) (w 
   pub wanted : has_exits (instruction flow i) ≡ true
 
 -- the entry that is nearest of those that take exit x of instruction i
-abbrev pub NearestIs : (w : ℕ) → Entries → (n : ℕ) (ops : List Op) (i : ℕ) → Exit → Found → Type 0
+abbrev pub NearestIs : (w : ℕ) → Entries → (n : ℕ) (ops : List Op) (i : ℕ) → Exit → Found ℕ → Type 0
 NearestIs w e n ops i x = FirstIs (takes_at w e.places e.patterns (get_or ops (i - 1) blank) i x) n

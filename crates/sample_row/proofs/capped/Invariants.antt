@@ -1,12 +1,9 @@
--- `sample_row::capped` meets its contract. The loop's invariant: the sum so far is that of the first i lengths, and does not pass the cap.
+-- `sample_row::capped` meets its contract. The loop's invariant: the sum so far is that of the lengths so far, or the cap.
 use mathlib.Core.Path.{◌≡◌}
-use Prim.Native.Nat.{◌-◌, ◌≤◌}
-use lib.ListN.{length, take}
+use Prim.Native.Nat.{min}
+use lib.ListN.{take}
 use Rattle.model.specs.Tapes.{total}
 use Rattle.sample_row.proofs.capped.Given as goal
 
-abbrev pub invariant-loop-i : goal.invariant-loop-i
-invariant-loop-i l = (l.i ≤ l.n) × (l.n ≤ length l.lengths) × (l.sum ≤ l.cap) × (l.sum ≡ total (take l.i l.lengths))
-
-abbrev pub decreases-loop-i : goal.decreases-loop-i
-decreases-loop-i l = l.n - l.i
+abbrev pub invariant-loop-x : goal.invariant-loop-x
+invariant-loop-x l = l.sum ≡ min (total (take l.x-index l.lengths)) l.cap

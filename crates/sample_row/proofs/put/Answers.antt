@@ -1,5 +1,4 @@
 -- `sample_row::put` meets its contract.
-use mathlib.Core.Path.{◌∙◌}
 use Prim.Native.Nat.{◌-◌}
 use native.Mathlib.Omega.{arith}
 use lib.ListN.{length}
@@ -9,5 +8,4 @@ use Rattle.sample_row.proofs.put.Goals as goal
 
 pub returns : goal.returns
 returns c = let a = c.args in
-    put_is a.row.now a.s a.k (length a.row.now - a.s) a.x c.put_at.new.part c.requires (omega arith)
-    (c.put_at.ensures ∙ rw (to_z-of_z c.ranges.x))
+    put_is a.row.now a.s a.k (length a.row.now - a.s) a.x _ c.requires (omega arith) (rw (to_z-of_z c.ranges.x))

@@ -30,7 +30,7 @@ next_cell walk a = get_or walk.starts a 0 + get_or walk.counts a 0
 -- the row with room made for a record
 unfoldable pub roomed : Choice → (starts counts : List ℕ) → List ℤ → List ℤ
 roomed (Take x) starts counts row = row
-roomed (Between up m) starts counts row = on_parts (moved up m) starts counts row
+roomed (Between out m) starts counts row = on_parts (moved out m) starts counts row
 
 -- after the read of tape a into variable u
 abbrev pub walk_after : Choice → (a u : ℕ) → Walk → Walk

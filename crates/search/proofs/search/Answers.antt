@@ -1,6 +1,5 @@
 -- `search` meets its contract: after `begin` the search stands at its start, and the walk answers for the cells that there are.
-use mathlib.Core.Path.{sym, ◌∙◌, subst}
-use Prim.Native.Nat.{ℕ, ◌≤◌}
+use mathlib.Core.Path.{sym, ◌∙◌}
 use native.Mathlib.Omega.{arith}
 use Rattle.search.specs.Inner.Search.{SearchedIs}
 use Rattle.search.proofs.Exploring.{begun_exploring, none_fits, marks-room, of_all_cells}
@@ -10,18 +9,12 @@ pub returns-then-empty : goal.returns-then-empty
 unfolding SearchedIs
 returns-then-empty c = λ s is. none_fits _ _ _ _ (sym c.cells_of-size.ensures ∙ omega (arith, c.if-empty.true))
 
-pub begin-requires : goal.begin-requires
-begin-requires c = record { size_nonzero = omega (arith, c.if-empty.false); size_bound = subst (λ (n : ℕ). c.cells_of-size.result ≤ n) c.cells_of-size.ensures (omega arith) }
-
 pub walk-requires : goal.walk-requires
-walk-requires c = record {
-  table = c.requires.table;
-  exploring = (
-    c.requires.start_value.0,
-    begun_exploring _ _ c.requires.start_value.1 c.begin.ensures
-        (marks-room c.args.cells.now _ _ c.cells_of-size.ensures c.begin.auto.cells),
-  );
-}
+walk-requires c = (
+  c.requires.0,
+  begun_exploring _ _ c.requires.1 c.begin.ensures
+      (marks-room c.args.cells.now _ _ c.cells_of-size.ensures c.begin.auto.cells),
+)
 
 pub returns : goal.returns
 returns c = λ s is. of_all_cells _ _ _ _ _ _ _ c.cells_of-size.ensures

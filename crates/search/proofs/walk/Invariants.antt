@@ -9,7 +9,7 @@ use Rattle.search.proofs.walk.Given as goal
 
 abbrev pub invariant-loop-k : goal.invariant-loop-k
 invariant-loop-k l =
-    ((s : Subject l.w l.ops) → Exploring s.lo l.w s.flow (columns_of l.initial.cells) 1 l.size 0 0 → Exploring s.lo l.w s.flow (columns_of l.cells) l.n l.size l.c l.k)
+    ((s : Subject l.coding.w l.ops) → Exploring s.lo l.coding.w s.flow (columns_of l.initial.cells) 1 l.size 0 0 → Exploring s.lo l.coding.w s.flow (columns_of l.cells) l.n l.size l.c l.k)
     × (length l.cells ≡ length l.initial.cells)
 
 abbrev pub decreases-loop-k : goal.decreases-loop-k

@@ -1,6 +1,6 @@
 -- What a search promises: it stores all configurations that a flow reaches, or says that they outnumber the cells.
-use Rattle.std.specs.Prelude.{◌≡◌, List, ℕ, ◌+◌, ◌≤◌, ℤ}
-use Rattle.std.proofs.Math.Option.{Option}
+use Rattle.std.specs.Prelude.{◌≡◌, List, ℕ, ◌+◌, ◌≤◌, ℤ, Option, Some, None}
+use Rattle.std.proofs.Math.Option as Math
 use Rattle.graph.specs.Lists.{MoreThan}
 use Rattle.graph.specs.Inner.Graph.{Reached}
 use Rattle.graph.specs.Inner.Table.{Searching}
@@ -17,9 +17,6 @@ use Rattle.cells.specs.Inner.Entries.{entries_of, Filled, distance_of}
 use Rattle.search_table.specs.Inner.Passes.{Prepared}
 use Rattle.search_table.specs.Inner.Table.{words_at, table_of, Complete}
 use Rattle.search_visit.specs.Inner.Fan.{SearchReady, GrownIs}
-use Rattle.search_visit.specs.declared.Grown.{Grown}
-use Rattle.search.specs.declared.Searched.{Searched}
-use Rattle.search.specs.declared.Searched.TheVariants.{Done, Full}
 
 -- what is searched: a legal flow of which ops are the prepared instructions
 pub record Subject (w : ℕ) (ops : List Op) : Type 0 where
@@ -33,10 +30,10 @@ pub record Subject (w : ℕ) (ops : List Op) : Type 0 where
 -- ---- what an entry leads to
 -- an edge of x that costs so much leads to y
 abbrev pub LeadsAt : (w : ℕ) → Op → (cost : ℕ) (x y : Words) → Type 0
-LeadsAt w op cost x y = (e : Option Exit) × WordEdge w op x e y × (weight e ≡ cost)
+LeadsAt w op cost x y = (e : Math.Option Exit) × WordEdge w op x e y × (weight e ≡ cost)
 
 -- entry i is expanded along its edges that cost so much: all that they lead to is stored
-abbrev pub ExpandedIs : (w : ℕ) → Op → (r r' : Rows) (count cells i cost : ℕ) → Grown → Type 0
+abbrev pub ExpandedIs : (w : ℕ) → Op → (r r' : Rows) (count cells i cost : ℕ) → Option ℕ → Type 0
 ExpandedIs w op r r' count cells i cost g =
     let x = words_at (entries_of r) i in
     GrownIs (LeadsAt w op cost x) (LeadsAt w op cost x) w r r' count cells (distance_of (entries_of r) i + cost) i g
@@ -54,6 +51,6 @@ pub record Finished (lo : ℤ) (w : ℕ) (flow : Flow) (r : Rows) (cells n : ℕ
   pub within : n ≤ cells
 
 -- the answer of a search that has so many cells and leaves the rows r
-unfoldable pub SearchedIs : (lo : ℤ) (w : ℕ) → Flow → (r : Rows) (cells : ℕ) → Searched → Type 0
-SearchedIs lo w flow r cells (Done n) = Finished lo w flow r cells n
-SearchedIs lo w flow r cells Full = MoreThan (Reached (word_graph lo w flow)) cells
+unfoldable pub SearchedIs : (lo : ℤ) (w : ℕ) → Flow → (r : Rows) (cells : ℕ) → Option ℕ → Type 0
+SearchedIs lo w flow r cells (Some n) = Finished lo w flow r cells n
+SearchedIs lo w flow r cells None = MoreThan (Reached (word_graph lo w flow)) cells

@@ -1,5 +1,4 @@
 -- `exits` meets its contract: both columns list what the entries before k take (proofs/Filling.antt).
-use Prim.Native.Nat.{◌-◌, ◌≤◌}
 use mathlib.Core.List.{List}
 use Prim.Native.Nat.{ℕ}
 use Rattle.model.specs.Machine.{Exit, p_exit, m_exit}
@@ -12,7 +11,4 @@ abbrev pub Listing : (cells : List (List ℕ)) (w : ℕ) (ops : List Op) → Exi
 Listing cells w = Filling w (word_column place_field cells) (word_column pattern_field cells) (column distance_field cells)
 
 abbrev pub invariant-loop-k : goal.invariant-loop-k
-invariant-loop-k l = (l.k ≤ l.n) × Listing l.cells l.w l.ops p_exit l.k l.p × Listing l.cells l.w l.ops m_exit l.k l.m
-
-abbrev pub decreases-loop-k : goal.decreases-loop-k
-decreases-loop-k l = l.n - l.k
+invariant-loop-k l = Listing l.cells l.coding.w l.ops p_exit l.k l.p × Listing l.cells l.coding.w l.ops m_exit l.k l.m

@@ -1,27 +1,18 @@
--- `nearest` meets its contract: no entry before k takes the exit; the first that does ends the loop.
-use native.Mathlib.Omega.{arith}
+-- `nearest` meets its contract: `find` over a range gives the first of its numbers for which the closure holds.
+use mathlib.Core.Path.{◌≡◌}
+use mathlib.Core.Bool.{Bool, true, false}
+use Prim.Native.Nat.{ℕ}
 use borrow.Author.Rules.{rules}
-use Rattle.graph.proofs.Wanted.{none-at-start}
+use borrow.Author.Tests.{tests}
+use Rattle.std.proofs.lemmas.Iterator.{first_from_Range}
+use Rattle.model.specs.Machine.{exit_if}
+use Rattle.cells.specs.Inner.Columns.{place_field, pattern_field, word_column}
 use Rattle.search_table.specs.Inner.Passes.{takes_at}
-use Rattle.search_table.proofs.PassInvariant.{takes-words, first_found, none_past, first-none}
+use Rattle.search_table.proofs.PassInvariant.{first_by}
 use Rattle.search_table.proofs.nearest.Goals as goal
 
-pub loop-k-init : goal.loop-k-init
-loop-k-init c = (search rules, none-at-start _)
-
-pub words_at-x-requires : goal.words_at-x-requires
-words_at-x-requires c = omega (arith, c.loop-k-test.true, c.requires.n_in_bounds)
-
-pub returns-then-takes : goal.returns-then-takes
-unfolding takes_at
-returns-then-takes c = let a = c.args in
-    first_found c.loop-k-test.true c.loop-k.invariant.1 (takes-words _ a.instruction _ _ c.takes.ensures c.words_at-x.ensures) c.if-takes.true
-
-pub loop-k-preserved : goal.loop-k-preserved
-unfolding takes_at
-loop-k-preserved c = let l = c.loop-k in
-    let a = c.args in
-    (search rules, none_past l.k l.invariant.1 (takes-words _ a.instruction _ _ c.takes.ensures c.words_at-x.ensures) c.if-takes.false)
-
 pub returns : goal.returns
-returns c = first-none c.loop-k.k c.loop-k-test.false c.loop-k.invariant.1
+unfolding takes_at
+returns c =
+    let test : ℕ → Bool = takes_at c.args.coding.now.w (word_column place_field c.args.cells.now) (word_column pattern_field c.args.cells.now) c.args.op c.args.instruction (exit_if c.args.exit) in
+    first_by test c.args.n c.find.result (first_from_Range _ _ _ c.find.result (λ k. test k ≡ true) (λ k. test k ≡ false) c.find.ensures.ran (λ x q k. search (rules, tests)) (λ x q k. search (rules, tests)))

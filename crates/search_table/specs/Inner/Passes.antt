@@ -1,5 +1,5 @@
 -- What passes over the entries of a table find: the first entry that takes an exit, and the distance that it gives.
-use Rattle.std.specs.Prelude.{◌≡◌, Bool, true, ◌&&◌, List, ℕ, suc, ◌+◌, ◌<◌, ◌≤◌, ℤ, length, get_or, eqb}
+use Rattle.std.specs.Prelude.{◌≡◌, Bool, true, ◌&&◌, List, ℕ, suc, ◌+◌, ◌<◌, ◌≤◌, ℤ, length, get_or, eqb, Option, Some, None}
 use Rattle.model.specs.Language.{Flow, instruction}
 use Rattle.model.specs.Machine.{Exit, p_exit, m_exit}
 use Rattle.flow.specs.Limits.{max_instructions}
@@ -8,8 +8,6 @@ use Rattle.configuration.specs.Inner.Op.{read_op, op_of}
 use Rattle.configuration.specs.Inner.Step.{takes_of}
 use Rattle.configuration.specs.declared.Op.{Op}
 use Rattle.cells.specs.Cells.{most_cells}
-use Rattle.cells.specs.declared.Found.{Found}
-use Rattle.cells.specs.declared.Found.TheVariants.{At, Nothing}
 use Rattle.search_table.specs.declared.Distances.{Distances}
 use Rattle.graph.specs.Inner.Table.{NoneBefore}
 
@@ -45,9 +43,9 @@ pub record First (takes : ℕ → Bool) (n k : ℕ) : Type 0 where
   pub takes_it : takes k ≡ true
   pub before : NoneBefore takes k
 
-unfoldable pub FirstIs : (takes : ℕ → Bool) (n : ℕ) → Found → Type 0
-FirstIs takes n (At k) = First takes n k
-FirstIs takes n Nothing = NoneBefore takes n
+unfoldable pub FirstIs : (takes : ℕ → Bool) (n : ℕ) → Option ℕ → Type 0
+FirstIs takes n (Some k) = First takes n k
+FirstIs takes n None = NoneBefore takes n
 
 -- the number that is listed for an exit: 0 if none of n entries takes it, and else one exit more than to the first that does
 pub data Listed (takes : ℕ → Bool) (dist : ℕ → ℕ) (n c : ℕ) : Type 0 where

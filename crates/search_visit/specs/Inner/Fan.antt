@@ -1,6 +1,6 @@
 -- What an entry leads to: the fan of a read that finds a record, and the step that reads none.
-use Rattle.std.specs.Prelude.{◌≡◌, Bool, true, false, not, List, ℕ, ◌<◌, ◌≤◌, length}
-use Rattle.std.proofs.Math.Option.{Option}
+use Rattle.std.specs.Prelude.{◌≡◌, Bool, true, false, not, List, ℕ, ◌<◌, ◌≤◌, length, Option, Some, None}
+use Rattle.std.proofs.Math.Option as Math
 use Rattle.model.specs.Machine.{Exit}
 use Rattle.flow.specs.Limits.{max_variables}
 use Rattle.pattern_word.specs.Inner.Pattern.{Width, low, Valid}
@@ -16,8 +16,6 @@ use Rattle.cells.specs.Inner.Entries.{Entries, entries_of, Filled}
 use Rattle.cells.specs.Inner.Marks.{is_marked, Unmarked}
 use Rattle.search_table.specs.Inner.Table.{table_of}
 use Rattle.search_visit.specs.Inner.Visit.{Outgrown, Kept}
-use Rattle.search_visit.specs.declared.Grown.{Grown}
-use Rattle.search_visit.specs.declared.Grown.TheVariants.{To, Full}
 use Rattle.graph.specs.Inner.Table.{Table, Held}
 
 -- ---- a fan
@@ -25,11 +23,11 @@ use Rattle.graph.specs.Inner.Table.{Table, Held}
 abbrev pub Member : (w v : ℕ) (f y : Words) → Type 0
 Member w v f y = (u : ℕ) × Trial w u × (member_of w v f u ≡ y)
 
-unfoldable pub MembersIs : (w v : ℕ) → Words → (e e' : Entries) (heads nexts : List ℕ) (count cells d k : ℕ) → Grown → Type 0
-MembersIs w v f e e' heads nexts count cells d k (To n) = Kept (Member w v f) (Member w v f) e e' heads nexts count cells d k n
-MembersIs w v f e e' heads nexts count cells d k Full = Outgrown (Member w v f) d k (table_of e count) cells
+unfoldable pub MembersIs : (w v : ℕ) → Words → (e e' : Entries) (heads nexts : List ℕ) (count cells d k : ℕ) → Option ℕ → Type 0
+MembersIs w v f e e' heads nexts count cells d k (Some n) = Kept (Member w v f) (Member w v f) e e' heads nexts count cells d k n
+MembersIs w v f e e' heads nexts count cells d k None = Outgrown (Member w v f) d k (table_of e count) cells
 
-abbrev pub MembersIn : (w v : ℕ) → Words → (c c' : List (List ℕ)) (count cells d k : ℕ) → Grown → Type 0
+abbrev pub MembersIn : (w v : ℕ) → Words → (c c' : List (List ℕ)) (count cells d k : ℕ) → Option ℕ → Type 0
 MembersIn w v f c c' = MembersIs w v f (entries_of (columns_of c)) (entries_of (columns_of c')) (columns_of c').heads (columns_of c').nexts
 
 -- ---- marks
@@ -39,11 +37,11 @@ Marked w fans t =
     (i v : ℕ) → i < t.count → is_marked fans i v ≡ true → (u : ℕ) → Trial w u → Held t (member_of w v (t.node i) u)
 
 -- visits mark none of the entries that they add, and leave the marks of those that were there
-unfoldable pub FreshIs : (fans fans' : List ℕ) (count : ℕ) → Grown → Type 0
-FreshIs fans fans' count (To n) = Unmarked fans fans' count n
-FreshIs fans fans' count Full = Unmarked fans fans' count count
+unfoldable pub FreshIs : (fans fans' : List ℕ) (count : ℕ) → Option ℕ → Type 0
+FreshIs fans fans' count (Some n) = Unmarked fans fans' count n
+FreshIs fans fans' count None = Unmarked fans fans' count count
 
-abbrev pub FreshIn : (c c' : List (List ℕ)) (count : ℕ) → Grown → Type 0
+abbrev pub FreshIn : (c c' : List (List ℕ)) (count : ℕ) → Option ℕ → Type 0
 FreshIn c c' = FreshIs (column marks_field c) (column marks_field c')
 
 -- what a search keeps in the rows
@@ -55,7 +53,7 @@ pub record SearchReady (w : ℕ) (r : Rows) (count cells : ℕ) : Type 0 where
 -- ---- what an instruction leads to
 -- an edge of x leads to y
 abbrev pub LeadsTo : (w : ℕ) → Op → (x y : Words) → Type 0
-LeadsTo w op x y = (e : Option Exit) × WordEdge w op x e y
+LeadsTo w op x y = (e : Math.Option Exit) × WordEdge w op x e y
 
 -- whether an instruction is a read that can find a record
 abbrev pub opens_by : Action → Op → Words → Bool
@@ -79,7 +77,7 @@ pub record FanFits (w : ℕ) (op : Op) (x : Words) : Type 0 where
   pub valid : Valid w x.pattern
 
 -- visits that keep the marks
-unfoldable pub GrownIs : (S All : Words → Type 0) (w : ℕ) (r r' : Rows) (count cells d k : ℕ) → Grown → Type 0
-GrownIs S All w r r' count cells d k (To n) =
+unfoldable pub GrownIs : (S All : Words → Type 0) (w : ℕ) (r r' : Rows) (count cells d k : ℕ) → Option ℕ → Type 0
+GrownIs S All w r r' count cells d k (Some n) =
     Kept S All (entries_of r) (entries_of r') r'.heads r'.nexts count cells d k n × Marked w r'.fans (table_of (entries_of r') n)
-GrownIs S All w r r' count cells d k Full = Outgrown S d k (table_of (entries_of r) count) cells
+GrownIs S All w r r' count cells d k None = Outgrown S d k (table_of (entries_of r) count) cells

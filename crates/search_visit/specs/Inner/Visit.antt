@@ -1,13 +1,10 @@
 -- How the table of configurations grows.
-use Rattle.std.specs.Prelude.{◌≡◌, List, ℕ, ◌<◌, ◌≤◌}
+use Rattle.std.specs.Prelude.{◌≡◌, List, ℕ, ◌<◌, ◌≤◌, Option, Some, None}
 use Rattle.configuration.specs.declared.Words.{Words}
 use Rattle.cells.specs.Inner.Columns.{columns_of}
 use Rattle.cells.specs.Inner.Entries.{Entries, entries_of, Filled}
 use Rattle.search_table.specs.Inner.Table.{words_at, table_of}
 use Rattle.search_visit.specs.declared.Visited.{Visited}
-use Rattle.search_visit.specs.declared.Visited.TheVariants.{At, Full}
-use Rattle.search_visit.specs.declared.Grown.{Grown}
-use Rattle.search_visit.specs.declared.Grown.TheVariants.{To, Full as Full'}
 use Rattle.graph.specs.Inner.Table.{Table, Held, Fresh, Grows}
 
 -- the cells are full, and some words that are S are not stored
@@ -26,17 +23,12 @@ pub record Met (e e' : Entries) (heads nexts : List ℕ) (count cells d k : ℕ)
   pub below : i < n
   pub is : words_at e' i ≡ y
 
-unfoldable pub VisitedIs : (e e' : Entries) (heads nexts : List ℕ) (count cells d k : ℕ) → Words → Visited → Type 0
-VisitedIs e e' heads nexts count cells d k y (At i n) = Met e e' heads nexts count cells d k y i n
-VisitedIs e e' heads nexts count cells d k y Full = Outgrown (λ z. z ≡ y) d k (table_of e count) cells
+unfoldable pub VisitedIs : (e e' : Entries) (heads nexts : List ℕ) (count cells d k : ℕ) → Words → Option Visited → Type 0
+VisitedIs e e' heads nexts count cells d k y (Some v) = Met e e' heads nexts count cells d k y v.entry v.count
+VisitedIs e e' heads nexts count cells d k y None = Outgrown (λ z. z ≡ y) d k (table_of e count) cells
 
-abbrev pub VisitedIn : (c c' : List (List ℕ)) (count cells d k : ℕ) → Words → Visited → Type 0
+abbrev pub VisitedIn : (c c' : List (List ℕ)) (count cells d k : ℕ) → Words → Option Visited → Type 0
 VisitedIn c c' = VisitedIs (entries_of (columns_of c)) (entries_of (columns_of c')) (columns_of c').heads (columns_of c').nexts
-
--- the number of entries after a visit
-unfoldable pub grown_of : Visited → Grown
-grown_of (At i n) = To n
-grown_of Full = Full'
 
 -- ---- visits from entry k: what is added is S, and all words that are All are stored afterwards
 pub record Kept (S All : Words → Type 0) (e e' : Entries) (heads nexts : List ℕ) (count cells d k n : ℕ) : Type 0 where

@@ -3,6 +3,4 @@ use Rattle.tape_maker.proofs.ReportLaws.{report_is}
 use Rattle.tape_maker.proofs.report.Goals as goal
 
 pub returns : goal.returns
-returns c = let a = c.args in
-    report_is a.text.now a.cells.now c.answer-r.new.cells c.release.new.cells c.answer-r.result c.answer-r.ensures c.answer-r.auto.cells
-    c.is_refusal.ensures c.release.ensures
+returns c = report_is _ _ c.answer-report.new.cells _ _ c.answer-report.ensures c.answer-report.auto.cells c.is_err.ensures.value c.release.ensures

@@ -1,23 +1,12 @@
--- `tape_maker::run` meets its contract.
-use Rattle.tape_maker.proofs.RunLaws.{Read, refused_is, run_carried, read-fault, read_ok, requested-fault, requested-ok}
-use Rattle.tape_maker.proofs.run.Goals.{In-Legal}
+-- `tape_maker::run` meets its contract: a text that is refused, and one that is legal.
+use Rattle.std.proofs.lemmas.Result.{err_from_is_err_and}
+use Rattle.tape_maker.proofs.RunLaws.{refused_is, run_carried, requested-fault, requested-ok}
 use Rattle.tape_maker.proofs.run.Goals as goal
 
--- the text is legal
-legal : (c : In-Legal) → Read c.args.text.now c.read-reading.result.flow
-legal c = read_ok _ _ c.read-reading.ensures c.in-Legal.is
+pub returns-in_err-flow : goal.returns-in_err-flow
+returns-in_err-flow c =
+    let p = err_from_is_err_and c.from_residual.result c.from_residual.ensures.1 in
+    rw (p.1, p.2) (refused_is _ _ _ _ (requested-fault _ _ _ _ _ _ _ c.in_err-flow.ensures))
 
-pub run_flow-requires : goal.run_flow-requires
-run_flow-requires c = (legal (goal.at.run_flow-requires c).In-Legal).legal
-
-pub returns-in-Refused : goal.returns-in-Refused
-returns-in-Refused c = let a = c.args in
-    let e = requested-fault a.text.now a.limit a.records.now a.lengths.now a.numbers.now a.values.now _
-    (read-fault _ _ _ c.read-reading.ensures c.in-Refused.is) in
-    refused_is _ _ _ _ _ e c.run_refused.ensures
-
-pub returns-in-Legal : goal.returns-in-Legal
-returns-in-Legal c = let a = c.args in
-    let e = requested-ok a.text.now a.limit a.records.now a.lengths.now a.numbers.now a.values.now _
-    (legal (goal.at.returns-in-Legal c).In-Legal).read in
-    run_carried e c.run_flow.ensures
+pub returns : goal.returns
+returns c = run_carried (requested-ok _ _ _ _ _ _ _ c.in_ok-flow.ensures.read) c.run_flow.ensures

@@ -3,7 +3,4 @@ use Rattle.tape_maker.proofs.SampleLaws.{sample-is}
 use Rattle.tape_maker.proofs.sample.Goals as goal
 
 pub returns : goal.returns
-returns c = let a = c.args in
-    let l = c.answer-r.new in
-    sample-is a.text.now a.instruction a.exit a.cells.now l.cells c.release.new.cells a.row.now l.row c.answer-r.result
-    c.answer-r.ensures c.answer-r.auto.cells c.is_refusal.ensures c.release.ensures
+returns c = sample-is _ _ _ _ c.answer-sample.new.cells _ _ _ _ c.answer-sample.ensures c.answer-sample.auto.cells c.is_err.ensures.value c.release.ensures

@@ -1,20 +1,28 @@
--- What a legal flow is searched by, what a finished search gives a report, and arrays by instruction.
-use Rattle.std.specs.Prelude.{◌≡◌, Bool, true, false, List, ◌∷◌, map, ℕ, ◌<◌, length, get_or, take}
+-- What a text is read as in rows, what a legal flow is searched by, and arrays by instruction.
+use Rattle.std.specs.Prelude.{◌≡◌, Bool, List, ◌∷◌, map, ℕ, ◌≤◌, ◌<◌, get_or, take, Result, Ok, Err}
 use Rattle.model.specs.Language.{Instruction, stop, Flow, has_exits, C1, C2}
 use Rattle.model.specs.Pattern.{width_of}
 use Rattle.flow.specs.Limits.{max_instructions}
 use Rattle.flow.specs.Code.{row_of}
 use Rattle.flow.specs.Legal.{Legal}
 use Rattle.flow.specs.declared.Instruction.{Instruction as Row}
-use Rattle.flow.specs.Inner.Rows.{instruction_of}
+use Rattle.flow.specs.declared.Flow.{Flow as Rows}
+use Rattle.flow.specs.declared.Refusal.{Refusal}
+use Rattle.flow.specs.Inner.Rows.{instruction_of, flow_of}
 use Rattle.configuration.specs.Inner.Prepare.{FitBytes}
 use Rattle.configuration.specs.Inner.Step.{start_of}
 use Rattle.search_table.specs.Inner.Passes.{Prepared}
-use Rattle.search_table.specs.declared.Distances.{Distances}
-use Rattle.sample.specs.declared.SampleEnd as SampleEnds
-use Rattle.tape_maker.specs.declared.ReportEnd as ReportEnds
-use Rattle.tape_maker.specs.declared.ReportAnswer.{ReportAnswer}
 use Rattle.tape_maker.specs.declared.planning.Plan.{Plan}
+
+-- what is read of a text: a legal flow, of no more rows than there are, or its refusal
+pub record IsRead (o : Result Flow Refusal) (rows : Rows) : Type 0 where
+  pub read : o ≡ Ok (flow_of rows)
+  pub legal : Legal (flow_of rows)
+  pub few : rows.count ≤ max_instructions
+
+abbrev pub ReadAs : Result Flow Refusal → Result Rows Refusal → Type 0
+ReadAs o (Ok rows) = IsRead o rows
+ReadAs o (Err why) = o ≡ Err why
 
 -- whether the instruction of a row has two exits
 unfoldable pub exits_in : Row → Bool
@@ -39,28 +47,8 @@ pub record Each {A : Type 0} (f : Instruction → A) (d : A) (rows : List Row) (
 -- what a search needs of a legal flow: its instructions prepared, the width of its constants, the start, and C1 and C2
 pub record Planned (flow : Flow) (p : Plan) : Type 0 where
   pub legal : Legal flow
-  pub prepared : Prepared (C1 flow) flow p.ops
+  pub prepared : Prepared (C1 flow) flow p.program.ops
   pub width : p.w ≡ width_of (C1 flow) (C2 flow)
   pub begins : p.start ≡ start_of (C1 flow)
-  pub low : p.lo ≡ C1 flow
-  pub high : p.hi ≡ C2 flow
-
--- the report of a table of n entries, with the distances that were listed
-pub record GivenIs (rows : List Row) (count n : ℕ) (d : Distances) (r : ReportAnswer) : Type 0 where
-  pub long : length rows ≡ max_instructions
-  pub end : r.end ≡ ReportEnds.TheVariants.Given
-  pub instructions : r.instructions ≡ count
-  pub configurations : r.configurations ≡ n
-  pub two : Each has_exits false rows count r.two
-  pub p : r.p ≡ d.p
-  pub m : r.m ≡ d.m
-
--- whether an answer is a refusal, by its end
-unfoldable pub report_refused : ReportEnds.ReportEnd → Bool
-report_refused ReportEnds.TheVariants.Given = false
-report_refused (ReportEnds.TheVariants.Refused why) = true
-
-unfoldable pub sample_refused : SampleEnds.SampleEnd → Bool
-sample_refused SampleEnds.TheVariants.Taken = false
-sample_refused SampleEnds.TheVariants.Never = false
-sample_refused (SampleEnds.TheVariants.Refused why) = true
+  pub low : p.program.lo ≡ C1 flow
+  pub high : p.program.hi ≡ C2 flow

@@ -1,34 +1,30 @@
--- `text::end_of` meets its contract: the place of the next `byte` is the same from each i that the loop reaches.
-use mathlib.Core.Path.{refl}
+-- `text::end_of` meets its contract: the search of the slice and `until` stop at the same byte.
+use mathlib.Core.Path.{◌≡◌, ap}
+use mathlib.Core.List.{List}
+use Prim.Native.Nat.{ℕ, ◌-◌, ◌<◌}
 use native.Mathlib.Omega.{arith}
-use Rattle.text.proofs.Parts.{until-here, until-further, until_end}
+use lib.ListN.{length, drop, take, length-drop}
+use lib.Seq.{take_all}
+use Rattle.std.proofs.Common.{rules}
+use Rattle.text.proofs.Parts.{until_is, until_none}
 use Rattle.text.proofs.end_of.Goals as goal
 
-pub loop-i-init : goal.loop-i-init
-loop-i-init c = (omega arith, refl)
+-- the slice from a place on, as the code takes it
+abbrev rest : List ℕ → ℕ → List ℕ
+rest s i = take (length s - i) (drop i s)
 
-pub bounds-text-i : goal.bounds-text-i
-bounds-text-i c = omega arith
+rest-is : (s : List ℕ) (i : ℕ) → rest s i ≡ drop i s
+rest-is s i = take_all (length s - i) (drop i s) (simp length-drop (omega arith))
 
-pub returns-then-text-i : goal.returns-then-text-i
-returns-then-text-i c = let a = c.args in
-    let l = c.loop-i in
-    let none = until-here a.byte a.text.now l.i (omega arith) c.if-text-i.true in
-    (omega arith, omega arith)
+pub returns-in-Some : goal.returns-in-Some
+returns-in-Some c =
+    let here = until_is c.args.byte (rest c.args.text.now c.args.from) c.in-Some.i (search rules) (search rules) (search rules) in
+    let same = rest-is c.args.text.now c.args.from in
+    let inside : c.in-Some.i < length (rest c.args.text.now c.args.from) = search rules in
+    rw (← same, here) (omega (arith, simp length-drop at (ap length same)))
 
-pub overflow_add-i : goal.overflow_add-i
-overflow_add-i c = omega arith
-
-pub loop-i-smaller : goal.loop-i-smaller
-loop-i-smaller c = omega arith
-
-pub loop-i-preserved : goal.loop-i-preserved
-loop-i-preserved c = let a = c.args in
-    let l = c.loop-i in
-    omega (arith, until-further a.byte a.text.now l.i (omega arith) c.if-text-i.false)
-
-pub returns : goal.returns
-returns c = let a = c.args in
-    let l = c.loop-i in
-    let none = until_end a.byte a.text.now l.i (omega arith) in
-    (omega arith, omega arith)
+pub returns-in-None : goal.returns-in-None
+returns-in-None c =
+    let none = until_none c.args.byte (rest c.args.text.now c.args.from) (search rules) in
+    let same = rest-is c.args.text.now c.args.from in
+    rw (← same, none) (omega arith)

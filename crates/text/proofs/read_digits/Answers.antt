@@ -1,53 +1,21 @@
--- `text::read_digits` meets its contract: the field is read as the digits from i on are, behind the size so far.
-use mathlib.Core.Path.{refl, sym, ap, ◌∙◌}
-use mathlib.Core.List.{List}
-use Prim.Native.Nat.{ℕ}
+-- `text::read_digits` meets its contract: the field is read as the digits from b's place on are, behind the size so far.
+use mathlib.Core.Path.{sym, ap, ◌∙◌}
 use native.Mathlib.Omega.{arith}
 use mir.Syntax.{w64}
 use mir.Facts.{to_z_pos}
-use Rattle.text.specs.declared.Number.TheVariants.{Value}
-use Rattle.text.specs.Inner.Capped.{capped_number}
-use Rattle.text.proofs.Digits.{answer, capped_so_far, digits-end, digit_at, low-at, high-at}
-use Rattle.text.proofs.read_digits.Goals.{At-loop-i}
+use Rattle.std.specs.Prelude.{Some}
+use Rattle.text.proofs.Digits.{answer, capped_so_far, digits-end, digit_at, no-digit-at}
 use Rattle.text.proofs.read_digits.Goals as goal
 
-abbrev field : At-loop-i → List ℕ
-field t = t.args.f.now
+pub returns-then-not-is_ascii_digit : goal.returns-then-not-is_ascii_digit
+returns-then-not-is_ascii_digit c = let l = c.loop-b in
+    sym (ap answer (no-digit-at c.args.f.now l.b-index l.n c.loop-b-test.true (sym c.is_ascii_digit.ensures.value ∙ c.if-not-is_ascii_digit.true))) ∙ l.invariant.1
 
-pub loop-i-init : goal.loop-i-init
-loop-i-init c = (omega arith, omega arith, refl)
-
-pub returns-then-b-lt48 : goal.returns-then-b-lt48
-unfolding capped_number
-returns-then-b-lt48 c = let l = c.loop-i in
-    sym (ap answer (low-at (field (goal.at.returns-then-b-lt48 c).At-loop-i) l.i l.n (omega arith) c.if-b-lt48.true)) ∙ l.invariant.2
-
-pub returns-then-b-gt57 : goal.returns-then-b-gt57
-unfolding capped_number
-returns-then-b-gt57 c = let l = c.loop-i in
-    sym (ap answer (high-at (field (goal.at.returns-then-b-gt57 c).At-loop-i) l.i l.n (omega arith) c.if-b-gt57.true)) ∙ l.invariant.2
-
-pub loop-i-preserved : goal.loop-i-preserved
-loop-i-preserved c = let l = c.loop-i in
-    let more = digit_at (field (goal.at.loop-i-preserved c).At-loop-i) l.i l.n (omega arith) c.if-b-lt48.false c.if-b-gt57.false in
-    let n = c.with_digit-n.ensures in
-    (omega arith, omega arith, rw n (capped_so_far _ _ ∙ sym (ap answer more) ∙ l.invariant.2))
+pub loop-b-preserved : goal.loop-b-preserved
+loop-b-preserved c = let l = c.loop-b in
+    let more = digit_at c.args.f.now l.b-index l.n c.loop-b-test.true (sym c.is_ascii_digit.ensures.value ∙ c.if-not-is_ascii_digit.false) in
+    (omega arith, rw (c.min-n.ensures, c.from.ensures) (capped_so_far _ _ ∙ sym (ap answer more) ∙ l.invariant.1))
 
 pub returns : goal.returns
-returns c = let l = c.loop-i in
-    ap Value (to_z_pos w64 (omega arith)) ∙ sym (digits-end (field (goal.at.returns c).At-loop-i) l.i l.n (omega arith) l.invariant.1) ∙ l.invariant.2
-
-pub bounds-f-i : goal.bounds-f-i
-bounds-f-i c = omega arith
-
-pub with_digit-n-requires : goal.with_digit-n-requires
-with_digit-n-requires c = omega arith
-
-pub overflow_add-i : goal.overflow_add-i
-overflow_add-i c = omega arith
-
-pub loop-i-smaller : goal.loop-i-smaller
-loop-i-smaller c = omega arith
-
-pub overflow_cast-result : goal.overflow_cast-result
-overflow_cast-result c = record { sfits = omega arith }
+returns c = let l = c.loop-b in
+    ap Some (to_z_pos w64 (omega arith)) ∙ sym (digits-end c.args.f.now l.b-index l.n c.loop-b-test.false l.invariant.0) ∙ l.invariant.1

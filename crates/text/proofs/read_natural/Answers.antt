@@ -1,23 +1,20 @@
 -- `text::read_natural` meets its contract: each return is a law of `natural` at the code's tests.
 use mathlib.Core.Path.{sym, ap, ◌∙◌}
 use native.Mathlib.Omega.{arith}
-use Rattle.text.specs.Inner.Capped.{capped_number}
-use Rattle.text.proofs.Digits.{answer, natural_empty, natural-one, natural-zero, natural-more}
+use borrow.Author.Tests.{ltb-false, ltb-true, eqb-false}
+use Rattle.text.proofs.Digits.{answer, natural_empty, natural-zero, natural-plain}
+use Rattle.text.proofs.read_natural.Goals.{in_default-via-then-f-lt2, in_default-via-else-f-lt2+in_default-1}
 use Rattle.text.proofs.read_natural.Goals as goal
 
-pub returns-then-f-eq0 : goal.returns-then-f-eq0
-unfolding capped_number
-returns-then-f-eq0 c = sym (ap answer (natural_empty c.args.f.now c.if-f-eq0.true))
+pub returns-in_default : goal.returns-in_default
+returns-in_default c =
+    c.read_digits.ensures ∙ sym (ap answer (natural-plain c.args.f.now (omega (arith, ltb-false)) (λ long zero. elim c.in_default.branch [
+      | in_default-via-then-f-lt2 w ↦ omega (arith, ltb-true)
+      | in_default-via-else-f-lt2+in_default-1 w ↦ omega (arith, ltb-false, eqb-false)
+    ])))
 
-pub returns-then-f-eq1 : goal.returns-then-f-eq1
-returns-then-f-eq1 c = let f = c.args.f.now in
-    c.read_digits.ensures ∙ sym (ap answer (natural-one f c.if-f-eq1.true))
+pub returns-in-empty : goal.returns-in-empty
+returns-in-empty c = sym (ap answer (natural_empty c.args.f.now (omega arith)))
 
-pub returns-then-zero : goal.returns-then-zero
-unfolding capped_number
-returns-then-zero c = let f = c.args.f.now in
-    sym (ap answer (natural-zero f (omega arith) c.if-zero.true))
-
-pub returns : goal.returns
-returns c = let f = c.args.f.now in
-    c.read_digits-2.ensures ∙ sym (ap answer (natural-more f (omega arith) c.if-zero.false))
+pub returns-in-empty-2 : goal.returns-in-empty-2
+returns-in-empty-2 c = sym (ap answer (natural-zero c.args.f.now (omega arith) (omega arith)))

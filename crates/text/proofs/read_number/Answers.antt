@@ -1,58 +1,54 @@
 -- `text::read_number` meets its contract: each return is a law of `numeral` at the code's tests.
 use mathlib.Core.Path.{◌≡◌, sym, ap, ◌∙◌}
 use mathlib.Core.List.{List}
-use mathlib.Core.Option.{Option}
+use Rattle.std.specs.Prelude.{Option, Some, option_map}
 use Prim.Native.Nat.{ℕ}
 use native.Mathlib.Omega.{arith}
-use Rattle.text.specs.declared.Number.TheVariants.{Value}
+use borrow.Author.Tests.{ltb-true, eqb-false}
+use Rattle.std.proofs.Common.{rules}
 use Rattle.text.specs.Number.{natural, negative, numeral}
-use Rattle.text.specs.Inner.Capped.{capped_number}
-use Rattle.text.proofs.Digits.{answer, digits_behind, numeral_empty, numeral_plain, numeral_barred, numeral_minus}
+use Rattle.text.specs.Inner.Capped.{capped}
+use Rattle.text.proofs.Digits.{answer, digits_behind, numeral_plain, numeral_barred, numeral_minus}
 use Rattle.text.proofs.Digits.{minus_bad, minus_fits, minus_zero, minus_value}
-use Rattle.text.proofs.read_number.Goals.{After-read_natural-size, In-Value}
+use Rattle.text.proofs.read_number.Goals.{After-read_natural-2, In_ok-n, in_default-via-then-f-lt1, in_default-via-else-f-lt1+in_default-1}
 use Rattle.text.proofs.read_number.Goals as goal
 
-pub returns-then-f-eq0 : goal.returns-then-f-eq0
-unfolding capped_number
-returns-then-f-eq0 c = let a = c.args in
-    sym (ap capped_number (numeral_empty a.minus a.f.now c.if-f-eq0.true))
-
-pub returns-then-f-ne45 : goal.returns-then-f-ne45
-returns-then-f-ne45 c = let a = c.args in
-    c.read_natural.ensures ∙ sym (ap capped_number (numeral_plain a.minus a.f.now (omega arith) c.if-f-ne45.true))
+pub returns-in_default : goal.returns-in_default
+returns-in_default c =
+    c.read_natural.ensures ∙ sym (ap (option_map capped) (numeral_plain c.args.minus c.args.f.now (λ more minus. elim c.in_default.branch [
+      | in_default-via-then-f-lt1 w ↦ omega (arith, ltb-true)
+      | in_default-via-else-f-lt1+in_default-1 w ↦ omega (arith, eqb-false)
+    ])))
 
 pub returns-then-not-minus : goal.returns-then-not-minus
-unfolding capped_number
 returns-then-not-minus c =
-    let a = c.args in
-    sym (ap capped_number (numeral_barred a.minus a.f.now (omega arith) c.if-f-ne45.false c.if-not-minus.true))
+    sym (ap (option_map capped) (numeral_barred c.args.minus c.args.f.now (omega arith) (omega arith) c.if-not-minus.true))
 
 -- what stands behind the minus, read as a size; the field is that size below 0
 abbrev size : List ℕ → Option ℕ
 size f = natural (digits_behind f)
 
-below : (c : After-read_natural-size) → let a = c.args in capped_number (negative (size a.f.now)) ≡ capped_number (numeral a.minus a.f.now)
+below : (c : After-read_natural-2) → let a = c.args in option_map capped (negative (size a.f.now)) ≡ option_map capped (numeral a.minus a.f.now)
 below c =
     let a = c.args in
-    sym (ap capped_number (numeral_minus a.minus a.f.now (omega arith) c.if-f-ne45.false c.if-not-minus.false))
+    sym (ap (option_map capped) (numeral_minus a.minus a.f.now (omega arith) (omega arith) c.if-not-minus.false))
 
 -- the size that the code holds
-held : (c : In-Value) → answer (size c.args.f.now) ≡ Value c.in-Value.n
-held c = sym c.read_natural-size.ensures ∙ c.in-Value.is
+held : (c : In_ok-n) → answer (size c.args.f.now) ≡ Some c.in_ok-n.n
+held c = sym c.read_natural-2.ensures ∙ c.in_ok-n.was
 
-pub returns-then-n-eq0 : goal.returns-then-n-eq0
-returns-then-n-eq0 c =
-    let at = goal.at.returns-then-n-eq0 c in
-    minus_zero (size c.args.f.now) _ (held at.In-Value) c.if-n-eq0.true ∙ below at.After-read_natural-size
-
-pub returns-else-n-eq0 : goal.returns-else-n-eq0
-returns-else-n-eq0 c =
-    let at = goal.at.returns-else-n-eq0 c in
-    minus_value (size c.args.f.now) _ (held at.In-Value) c.if-n-eq0.false ∙ below at.After-read_natural-size
-
-pub returns-in-Bad : goal.returns-in-Bad
-returns-in-Bad c =
-    minus_bad (size c.args.f.now) (sym c.read_natural-size.ensures ∙ c.in-Bad.is) ∙ below (goal.at.returns-in-Bad c).After-read_natural-size
+pub returns-in_err-n : goal.returns-in_err-n
+returns-in_err-n c = c.from_residual.ensures ∙ minus_bad (size c.args.f.now) (sym c.read_natural-2.ensures ∙ c.in_err-n.was) ∙ below (goal.at.returns-in_err-n c).After-read_natural-2
 
 pub overflow_sub-result : goal.overflow_sub-result
-overflow_sub-result c = minus_fits (size c.args.f.now) _ (held (goal.at.overflow_sub-result c).In-Value)
+overflow_sub-result c = minus_fits (size c.args.f.now) _ (held (goal.at.overflow_sub-result c).In_ok-n)
+
+pub returns-in-0 : goal.returns-in-0
+returns-in-0 c = let h = c.in-0 in
+    let at = goal.at.returns-in-0 c in
+    minus_zero (size c.args.f.now) _ (held at.In_ok-n) (search rules) ∙ below at.After-read_natural-2
+
+pub returns-in_default-2 : goal.returns-in_default-2
+returns-in_default-2 c = let h = c.in_default-2 in
+    let at = goal.at.returns-in_default-2 c in
+    minus_value (size c.args.f.now) _ (held at.In_ok-n) (search rules) ∙ below at.After-read_natural-2

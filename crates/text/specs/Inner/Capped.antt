@@ -1,10 +1,7 @@
 -- The number reader's answer: numbers are of any size, code holds 64 bits, so the
 -- reader gives each size above a cap as the cap. The cap lies above every range, that of 32-bit records too, so no test of
 -- a number against a range tells the two apart (proofs/Cap.antt).
-use Rattle.std.proofs.Math.Option.{Option, none, some}
 use Rattle.std.specs.Prelude.{ℕ, ◌-◌, min, ℤ, pos, negsuc}
-use Rattle.text.specs.declared.Number.{Number}
-use Rattle.text.specs.declared.Number.TheVariants.{Value, Bad}
 
 abbrev pub cap : ℕ
 cap = 10000000000
@@ -13,7 +10,3 @@ cap = 10000000000
 unfoldable pub capped : ℤ → ℤ
 capped (pos n) = pos (min n cap)
 capped (negsuc n) = negsuc (min n (cap - 1))
-
-unfoldable pub capped_number : Option ℤ → Number
-capped_number none = Bad
-capped_number (some z) = Value (capped z)

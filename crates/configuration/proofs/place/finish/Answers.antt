@@ -3,7 +3,4 @@ use Rattle.configuration.proofs.Arms as arms
 use Rattle.configuration.proofs.place.finish.Goals as goal
 
 pub join-requires : goal.join-requires
-join-requires c = arms.bits_below _ _ _ _ c.bits.ensures c.marked-e.ensures
-
-pub returns : goal.returns
-returns c = arms.finish_bits _ _ _ _ _ _ c.bits.ensures c.marked-e.ensures c.join.ensures
+join-requires c = arms.bits_below _ _ _ _ c.bits.ensures c.marked.ensures

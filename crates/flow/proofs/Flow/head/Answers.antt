@@ -1,11 +1,13 @@
 -- `flow::Flow::head` meets its contract.
+use Rattle.std.proofs.Common.{arith}
+use Rattle.std.proofs.lemmas.Bool.Decides.{nat_tests}
 use Rattle.flow.specs.Read.{head_of}
 use Rattle.flow.proofs.Flow.head.Goals as goal
 
-pub returns-then-t-o : goal.returns-then-t-o
+pub returns-then-not-in_range : goal.returns-then-not-in_range
 unfolding head_of
-returns-then-t-o c = rw c.if-t-o.true
+returns-then-not-in_range c = grind (arith, nat_tests)
 
 pub returns : goal.returns
 unfolding head_of
-returns c = rw c.if-t-o.false
+returns c = grind (arith, nat_tests)

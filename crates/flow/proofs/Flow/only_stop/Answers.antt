@@ -4,4 +4,4 @@ use Rattle.flow.proofs.Flow.only_stop.Goals as goal
 
 pub returns : goal.returns
 unfolding rows_of
-returns c = c.stops.ensures
+returns c = rw (c.new.ensures, c.stop.ensures)

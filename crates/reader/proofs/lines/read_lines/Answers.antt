@@ -1,152 +1,98 @@
--- `lines::read_lines` meets its contract. The outer loop: the rows kept, in front of what the definition says of the lines from here on, are what
--- it says of all. The inner loop says the same of the numbers of a line. A line is read in three steps, whose faults are those of the line.
-use mathlib.Core.Path.{◌≡◌, sym, ap, ◌∙◌, subst}
-use mathlib.Core.List.{List}
-use Prim.Native.Nat.{ℕ, ◌+◌, ◌-◌, ◌<◌}
+-- `lines::read_lines` meets its contract: a line is read in three steps, before its numbers, its numbers, behind them, whose faults are those of the line.
+use mathlib.Core.Path.{◌≡◌, sym, ap, ap₂, ◌∙◌, subst}
+use mathlib.Core.Bool.{Bool}
+use mathlib.Core.List.{List, []}
+use Prim.Native.Nat.{ℕ, ◌+◌, ◌<◌, ◌≤◌}
 use native.Mathlib.Omega.{arith}
 use borrow.Author.Rules.{rules}
-use lib.IntN.{pos}
-use lib.ListN.{length, take, drop, set, replicate, length-set}
+use lib.ListN.{length, get_or, length-set}
 use mir.Syntax.{w32, w64}
 use mir.Val.{SFits, to_z, of_z}
 use mir.Facts.{to_z-of_z}
-use Rattle.model.specs.Language.{stop}
-use Rattle.text.specs.Split.{lines, split}
-use Rattle.flow.specs.Words.{sorts}
-use Rattle.flow.specs.Read.{Checked, ok, fault, read_lines}
-use Rattle.flow.specs.Code.{row_of}
+use Rattle.std.specs.Prelude.{Ok, Err, option_map}
+use Rattle.text.specs.Number.{numeral}
+use Rattle.text.specs.Inner.Capped.{capped}
+use Rattle.flow.specs.Words.{sorts, may_minus}
 use Rattle.flow.specs.Inner.Reader.{bounded}
-use Rattle.reader.specs.Inner.Lines.{kept_rows, answered, lines_in}
-use Rattle.reader.specs.Inner.Line.{begun_in, begin_line, ended_in}
-use Rattle.flow.specs.declared.Instruction.{Instruction as Row}
 use Rattle.flow.specs.declared.Refusal.{Refusal}
-use Rattle.flow.specs.declared.Refusal.TheVariants.{BadNumber}
+use Rattle.flow.specs.declared.Sort.{Sort}
+use Rattle.flow.specs.declared.Sort.TheVariants.{Target}
 use Rattle.flow.proofs.RowLaws.{width-bound}
 use Rattle.reader.proofs.LineLaws as laws
-use Rattle.reader.proofs.lines.read_lines.Goals.{After-end_of-end, In-Shown, In-loop-k, After-end}
+use Rattle.reader.proofs.lines.read_lines.Goals.{After-new-fields, In_ok-start, In-loop-k, After-read_number-number, After-loop-k}
 use Rattle.reader.proofs.lines.read_lines.Goals as goal
 
--- the fields of the line that begins at `at` and ends at `end`
-abbrev fields_of : List ℕ → ℕ → ℕ → List (List ℕ)
-fields_of text at end = split (take (end - at) (drop at text))
+-- a line that is refused
+fault : (c : After-new-fields) (r : Refusal) → laws.line_stepped c.args.head c.loop-at.count c.new-fields.result ≡ Err r → Err r ≡ laws.kept_lines c.args.head c.args.text.now
+fault c r e =
+    sym (laws.lines-fault c.loop-at.invariant.3 c.requires c.loop-at-test.true c.end_of-end.result c.end_of-end.ensures.0 c.new-fields.result c.new-fields.ensures r e)
 
--- ---- a line of the text, that of instruction count + 1
-module _ (c : After-end_of-end) where
-  abbrev text : List ℕ
-  text = c.args.text.now
+-- one that shows no fault before its numbers is not one too many, and has the fields that its word asks for
+begun : (c : In_ok-start) → (c.loop-at.count < 64) × (length c.new-fields.result ≡ length (sorts c.in_ok-start.start.kind) + 2)
+begun c = laws.begun c.loop-at.count c.new-fields.result c.in_ok-start.start (sym c.in_ok-start.ensures)
 
-  abbrev answer : Checked (List Row)
-  answer = kept_rows (read_lines c.args.head 1 (lines (drop c.args.from text)))
+-- one of its numbers
+within : (c : In-loop-k) → c.loop-k.k < length (sorts c.in_ok-start.start.kind)
+within c = subst (λ (ss : List Sort). c.loop-k.k < length ss) c.sorts-sort-items.ensures c.loop-k-test.true
 
-  abbrev fs : List (List ℕ)
-  fs = fields_of text c.lines.at c.end_of-end.result
+number : (c : After-read_number-number)
+    → option_map capped (numeral (may_minus (get_or (sorts c.in_ok-start.start.kind) c.loop-k.k Target)) (get_or c.new-fields.result (c.loop-k.k + 2) [])) ≡ c.read_number-number.result
+number c =
+    let minus = c.may_minus.ensures ∙ ap (λ (ss : List Sort). may_minus (get_or ss c.loop-k.k Target)) c.sorts-sort-items.ensures in
+    sym (c.read_number-number.ensures ∙ ap₂ (λ (m : Bool) (f : List ℕ). option_map capped (numeral m f)) minus c.get.ensures)
 
-  refused : (r : Refusal) → laws.line_stepped c.args.head c.lines.count fs ≡ fault r → fault r ≡ answer
-  refused r e =
-      let m = c.lines in
-      laws.lines-fault text m.at c.args.head m.rows m.count m.invariant.4 c.requires.1 c.if-text-at.false c.end_of-end.result c.end_of-end.ensures.0 r e
+-- all of them
+read : (c : After-loop-k) → length (sorts c.in_ok-start.start.kind) ≤ c.loop-k.k
+read c = subst (λ (ss : List Sort). length ss ≤ c.loop-k.k) c.sorts-sort-items.ensures c.loop-k-test.false
 
-  more : (row : Row) (stored : List Row) → stored ≡ set c.lines.rows c.lines.count row → c.lines.count < 64
-      → laws.line_stepped c.args.head c.lines.count fs ≡ ok row
-      → laws.prepended (take (c.lines.count + 1) stored)
-      (kept_rows (read_lines c.args.head (c.lines.count + 1 + 1) (lines (drop (c.end_of-end.result + 1) text))))
-      ≡ answer
-  more row stored is few e =
-      let m = c.lines in
-      let end = c.end_of-end.result in
-      let l : m.count < length m.rows = omega (arith, few, m.invariant.2) in
-      ap (λ (rs : List Row). laws.prepended (take (m.count + 1) rs) (kept_rows (read_lines c.args.head (m.count + 1 + 1) (lines (drop (end + 1) text))))) is
-      ∙ laws.lines_more text m.at c.args.head m.rows m.count m.invariant.4 c.requires.1 c.if-text-at.false end c.end_of-end.ensures.0 row l e
+pub returns-in_err-start : goal.returns-in_err-start
+returns-in_err-start c =
+    laws.left_by _ c.from_residual.ensures.1
+    ∙ fault (goal.at.returns-in_err-start c).After-new-fields _ (laws.stepped_start c.args.head c.loop-at.count c.new-fields.result _ (sym c.in_err-start.ensures))
 
--- ---- it shows no fault before the numbers after its word
-module _ (c : In-Shown) where
-  abbrev its_fields : List (List ℕ)
-  its_fields = fields_of c.args.text.now c.lines.at c.end_of-end.result
-
-  started : begin_line c.lines.count its_fields ≡ ok c.in-Shown.start
-  started = sym c.begin.ensures ∙ ap begun_in c.in-Shown.is
-
-  -- it is not one too many, and has the fields that its word asks for
-  begun : (c.lines.count < 64) × (length its_fields ≡ length (sorts c.in-Shown.start.kind) + 2)
-  begun = laws.begun c.lines.count its_fields c.in-Shown.start started
-
--- ---- k of the numbers after its word are read
-within : (c : In-loop-k) → (c.loop-k.k < 4) × (c.loop-k.k < length (sorts c.in-Shown.start.kind))
-within c = let w = c.width-k-end.ensures in (omega (arith, w, width-bound c.in-Shown.start.kind), omega (arith, w))
-
--- ---- all of them are read, and its row is made and tested
-stepped : (c : After-end) → ended_in c.end.result ≡ laws.line_stepped c.args.head c.lines.count (fields_of c.args.text.now c.lines.at c.end_of-end.result)
-stepped c =
-    let kind = c.in-Shown.start.kind in
-    let fs = fields_of c.args.text.now c.lines.at c.end_of-end.result in
-    let m = c.loop-k in
-    let w : m.k ≡ length (sorts kind) = omega (arith, c.width-k-end.ensures) in
-    let (zs, read, is) = laws.numbers-end (sorts kind) fs m.numbers m.k m.invariant.3 (omega arith) in
-    c.end.ensures
-    ∙ laws.line_steps_end c.args.head c.lines.count fs c.in-Shown.start (sym c.begin.ensures ∙ ap begun_in c.in-Shown.is) zs read m.numbers
-    (is ∙ ap (λ (n : ℕ). take n m.numbers) w) (subst (λ (n : ℕ). drop n m.numbers ≡ replicate (4 - n) (pos 0)) w m.invariant.2)
+pub returns-in_err-ok_or : goal.returns-in_err-ok_or
+returns-in_err-ok_or c =
+    let at = goal.at.returns-in_err-ok_or c in
+    let (none, is) = laws.asked-none c.read_number-number.result c.in_err-ok_or.ensures.value in
+    let bad = laws.numbers_bad c.loop-k.invariant (within at.In-loop-k) (begun at.In_ok-start).1 (number at.After-read_number-number ∙ none) in
+    laws.left_by _ c.from_residual-in_err-ok_or.ensures.1
+    ∙ sym (ap Err is)
+    ∙ fault at.After-new-fields _ (laws.stepped_bad c.args.head c.loop-at.count c.new-fields.result c.in_ok-start.start (sym c.in_ok-start.ensures) bad)
 
 pub loop-k-preserved : goal.loop-k-preserved
 loop-k-preserved c =
     let at = goal.at.loop-k-preserved c in
-    let (four, width) = within at.In-loop-k in
-    let v = c.in-Value.x in
-    let m = c.loop-k in
+    let v = c.in_ok-ok_or.field-0 in
     let f : SFits w64 v = search rules in
     let g : SFits w32 c.in_bounds.result = search rules in
-    let read = sym c.number_at.ensures ∙ c.in-Value.is in
-    let is : to_z w32 (of_z w32 c.in_bounds.result) ≡ bounded v = to_z-of_z g ∙ c.in_bounds.ensures ∙ ap bounded (to_z-of_z f) in (
-      omega arith,
-      simp length-set m.invariant.1,
-      laws.filler_less 4 (pos 0) (to_z w32 (of_z w32 c.in_bounds.result)) m.numbers m.k four m.invariant.2,
-      rw is
-          (laws.numbers_more (sorts c.in-Shown.start.kind) (its_fields at.In-Shown) m.numbers m.k m.invariant.3 width (begun at.In-Shown).1 v (omega arith) read),
-    )
+    let is : to_z w32 (of_z w32 c.in_bounds.result) ≡ bounded v = to_z-of_z g ∙ c.in_bounds.ensures ∙ ap bounded (to_z-of_z f) in
+    let written = number at.After-read_number-number ∙ laws.asked-some c.read_number-number.result _ c.in_ok-ok_or.ensures.value in
+    rw is (laws.numbers_more c.loop-k.invariant (within at.In-loop-k) (begun at.In_ok-start).1 (width-bound c.in_ok-start.start.kind) v written)
 
-pub with_row-stored-requires : goal.with_row-stored-requires
-with_row-stored-requires c = (begun (goal.at.with_row-stored-requires c).In-Shown).0
+pub returns-in_err-instruction : goal.returns-in_err-instruction
+returns-in_err-instruction c =
+    let at = goal.at.returns-in_err-instruction c in
+    laws.left_by _ c.from_residual-in_err-instruction.ensures.1
+    ∙ fault at.After-new-fields _
+    (laws.stepped-end c.args.head c.loop-at.count c.new-fields.result c.in_ok-start.start (sym c.in_ok-start.ensures) c.loop-k.invariant (read at.After-loop-k)
+    ∙ sym c.in_err-instruction.ensures)
 
-pub lines-preserved : goal.lines-preserved
-lines-preserved c =
-    let at = goal.at.lines-preserved c in
-    let few = (begun at.In-Shown).0 in
-    let row = c.in-Kept.kept in
-    let m = c.lines in
-    let is = c.with_row-stored.ensures in (
+pub store-requires : goal.store-requires
+store-requires c = omega (arith, (begun (goal.at.store-requires c).In_ok-start).0, c.loop-at.invariant.2)
+
+pub loop-at-preserved : goal.loop-at-preserved
+loop-at-preserved c =
+    let at = goal.at.loop-at-preserved c in
+    let few = (begun at.In_ok-start).0 in
+    let e =
+    laws.stepped-end c.args.head c.loop-at.count c.new-fields.result c.in_ok-start.start (sym c.in_ok-start.ensures) c.loop-k.invariant (read at.After-loop-k)
+    ∙ sym c.in_ok-instruction.ensures in (
       omega (arith, c.end_of-end.ensures.1),
       omega (arith, few),
-      ap length is ∙ simp length-set m.invariant.2,
-      ap (drop (m.count + 1)) is ∙ laws.filler_less 64 (row_of stop) row m.rows m.count few m.invariant.3,
-      more at.After-end_of-end row c.with_row-stored.result is few (sym (stepped at.After-end) ∙ ap ended_in c.in-Kept.is),
+      ap length c.store.ensures ∙ simp length-set c.loop-at.invariant.2,
+      rw c.store.ensures
+          (laws.lines_more c.loop-at.invariant.3 c.requires c.loop-at-test.true c.end_of-end.result c.end_of-end.ensures.0 c.new-fields.result c.new-fields.ensures _ few e),
     )
 
-pub returns-then-text-at-clause-result_value : goal.returns-then-text-at-clause-result_value
-unfolding lines_in answered
-returns-then-text-at-clause-result_value c =
-    let a = c.args in
-    let m = c.lines in
-    laws.lines_end a.text.now m.at a.head m.rows m.count m.invariant.4 c.if-text-at.true
-
-pub returns-in-Fault-clause-result_value : goal.returns-in-Fault-clause-result_value
-unfolding lines_in answered
-returns-in-Fault-clause-result_value c =
-    let at = (goal.at.returns-in-Fault-clause-result_value c).After-end_of-end in
-    let r = c.in-Fault.r in
-    refused at r (laws.steps-begin c.args.head c.lines.count (fs at) r (sym c.begin.ensures ∙ ap begun_in c.in-Fault.is))
-
-pub returns-in_default-clause-result_value : goal.returns-in_default-clause-result_value
-unfolding lines_in answered
-returns-in_default-clause-result_value c =
-    let at = goal.at.returns-in_default-clause-result_value c in
-    let s = c.in-Shown.start in
-    let fields = its_fields at.In-Shown in
-    refused at.After-end_of-end (BadNumber (c.lines.count + 2))
-    (laws.steps_bad c.args.head c.lines.count fields s (started at.In-Shown)
-    (laws.numbers_bad (sorts s.kind) fields c.loop-k.numbers c.loop-k.k c.loop-k.invariant.3 (within at.In-loop-k).1 (begun at.In-Shown).1
-    (sym c.number_at.ensures ∙ c.in_default.is)))
-
-pub returns-in-Fault-end-clause-result_value : goal.returns-in-Fault-end-clause-result_value
-unfolding lines_in answered
-returns-in-Fault-end-clause-result_value c =
-    let at = goal.at.returns-in-Fault-end-clause-result_value c in
-    refused at.After-end_of-end c.in-Fault-end.r (sym (stepped at.After-end) ∙ ap ended_in c.in-Fault-end.is)
+pub returns : goal.returns
+returns c = ap Ok c.new.ensures ∙ sym (laws.lines_end c.loop-at.invariant.3 c.loop-at-test.false)

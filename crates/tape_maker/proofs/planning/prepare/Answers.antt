@@ -1,4 +1,4 @@
--- `tape_maker::planning::prepare` meets its contract.
+-- `prepare` meets its contract: the places of the instructions before i are filled.
 use mathlib.Core.Path.{◌≡◌, sym, ap, ◌∙◌, subst}
 use native.Mathlib.Omega.{arith}
 use borrow.Author.Rules.{rules}
@@ -20,7 +20,7 @@ use Rattle.tape_maker.proofs.planning.prepare.Goals as goal
 
 pub loop-i-init : goal.loop-i-init
 unfolding op_of
-loop-i-init c = (omega arith, c.requires.0, filled-start _ blank _ _ _ c.stop-ops.ensures)
+loop-i-init c = filled-start _ blank _ _ _ c.stop-ops.ensures
 
 -- what stands past the rows
 abbrev past : Row
@@ -33,14 +33,11 @@ prepare-requires c = let long : length c.args.instructions ≡ 64 = search rules
 pub loop-i-preserved : goal.loop-i-preserved
 loop-i-preserved c = let a = c.args in
     let i = c.loop-i.i in
-    let long : length a.instructions ≡ 64 = search rules in (
-      omega arith,
-      c.loop-i.invariant.1,
-      filled_to_more _ blank a.instructions a.count i _ _ (omega arith) c.loop-i.invariant.2
-          (c.prepare.ensures ∙ ap (op_of _) (sym (line_row a.instructions a.count i past (omega arith) (omega arith)))),
-    )
+    let long : length a.instructions ≡ 64 = search rules in
+    filled_to_more _ blank a.instructions a.count i _ _ (omega arith) c.loop-i.invariant
+    (c.prepare.ensures ∙ ap (op_of _) (sym (line_row a.instructions a.count i past (omega arith) (omega arith))))
 
 pub returns : goal.returns
 returns c = let a = c.args in
     subst (λ (z : ℤ). Each (op_of z) blank a.instructions a.count c.loop-i.ops) (to_z-of_z c.ranges.lo)
-    (filled-end _ blank a.instructions a.count c.loop-i.i _ (omega arith) c.loop-i.invariant.2)
+    (filled-end _ blank a.instructions a.count c.loop-i.i _ (omega arith) c.loop-i.invariant)

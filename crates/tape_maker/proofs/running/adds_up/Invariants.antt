@@ -1,13 +1,9 @@
--- `tape_maker::running::adds_up` meets its contract.
+-- `adds_up` meets its contract: the lengths to come add up to what is left where all add up to the size.
 use mathlib.Core.Path.{◌≡◌}
-use Prim.Native.Nat.{◌-◌, ◌≤◌}
 use lib.Dec.{eqb}
-use lib.ListN.{length, drop}
+use lib.ListN.{drop}
 use Rattle.model.specs.Tapes.{total}
 use Rattle.tape_maker.proofs.running.adds_up.Given as goal
 
-abbrev pub invariant-loop-i : goal.invariant-loop-i
-invariant-loop-i l = (l.i ≤ length l.lengths) × (eqb (total (drop l.i l.lengths)) l.left ≡ eqb (total l.lengths) l.size)
-
-abbrev pub decreases-loop-i : goal.decreases-loop-i
-decreases-loop-i l = length l.lengths - l.i
+abbrev pub invariant-loop-length : goal.invariant-loop-length
+invariant-loop-length l = eqb (total (drop l.length-index l.lengths)) l.left ≡ eqb (total l.lengths) l.size

@@ -1,8 +1,0 @@
--- `lanes` meets its contract: the digits, recalled.
-use Rattle.pattern_word.proofs.Recalled as recalled
-use Rattle.pattern_word.proofs.lanes.Goals as goal
-
-pub returns : goal.returns
-returns c = let h = c.requires.width in
-    let d = c.unpack-d.ensures in
-    (recalled.lanes_recalled _ _ h _ _ d c.recall.ensures, recalled.recalled_below _ _ h _ _ d c.recall.ensures)

@@ -1,7 +1,0 @@
--- `recall_from` meets its contract: the four digits, from the first to the last.
-use Rattle.pattern_word.proofs.Recalled as recalled
-use borrow.Author.Rules.{rules}
-use Rattle.pattern_word.proofs.recall_from.Goals as goal
-
-pub returns : goal.returns
-returns c = recalled.recall_from-four _ _ (search rules) _ _ _ _ _ _ _ _ c.select-l.ensures c.select-m.ensures c.select-n.ensures c.select-x.ensures c.select-y.ensures c.select-z.ensures c.select-u.ensures

@@ -1,7 +1,0 @@
--- `main` stays within its buffer: that is where the bytes that were read stand.
-use native.Mathlib.Omega.{arith}
-use Rattle.input.proofs.Filled.{filled}
-use Rattle.test_readings.proofs.main.Goals as goal
-
-pub slice_bounds-print_readings-end : goal.slice_bounds-print_readings-end
-slice_bounds-print_readings-end c = omega (arith, filled _ _ c.read_file.ensures c.in-Bytes.is)
