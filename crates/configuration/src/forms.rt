@@ -27,6 +27,7 @@ fn byte(n: i32) -> u8
 fn form(kind: Kind, a: u8, b: u8, c: u8, d: u8, u: u32, v: u32) -> Op
     ensures { result ≡ formed kind a b c d u v }
 {
+    // Kept: a match on the kind, since each arm is a line of the table of instructions.
     match kind {
         Kind::Read => Op::read(from_zero(a), from_zero(b), c, d),
         Kind::Put => Op::go(c),

@@ -37,7 +37,7 @@ pub enum Sort {
 }
 
 // An instruction, kept whole: the kind of its line, and the numbers after the word in their order; 0 past the last.
-// Kept: four fields for four numbers, since with an array of them a run's step took 1.3 to 1.6 times as long (docs/DECISIONS.md, "Rows").
+// Kept: four fields for four numbers, since with an array of them a run's step took 1.3 to 1.6 times as long, where 1.05 is wanted (docs/DECISIONS.md, "Rows").
 #[derive(Clone, Copy, Debug, PartialEq, Eq)]
 pub struct Instruction {
     pub kind: Kind,

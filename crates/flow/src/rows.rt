@@ -46,11 +46,17 @@ impl Instruction {
     }
 
     // The number in field k after the word.
+    // Kept: a match, since by `self.numbers()[k]` a run's step took 1.25 times as long, where 1.05 is wanted.
     pub fn number(self, k: usize) -> i32
         requires { k < max_numbers }
         ensures { result ≡ at (numbers_in self) k }
     {
-        self.numbers()[k]
+        match k {
+            0 => self.first,
+            1 => self.second,
+            2 => self.third,
+            _ => self.fourth,
+        }
     }
 
     // The same, of a number that counts from 1.
@@ -130,6 +136,7 @@ impl Sort {
     }
 
     // The range of a number other than N, P, M.
+    // Kept: two tables, `bounds` and `targets`, as the definitions have two, which are looked at at different times.
     fn bounds(self, head: Head) -> Option<(i32, i32)>
         ensures { result ≡ bounds_of head self }
     {

@@ -4,7 +4,7 @@
 // the tapes' places as arrays, and lends these to functions that each do one thing of a step: nothing large is copied.
 #![tactic(auto)]
 
-ghost use Rattle.std.specs.Prelude.{◌≡◌, true, false, cond, ◌&&◌, ◌+◌, ◌-◌, ◌≤◌, ◌<◌, min, leb, pos, length, get_or, set};
+ghost use Rattle.std.specs.Prelude.{◌≡◌, true, false, cond, ◌&&◌, ◌+◌, ◌-◌, ◌≤◌, ◌<◌, min, pos, length, get_or, set};
 ghost use Rattle.model.specs.Machine.{p_exit, m_exit};
 ghost use Rattle.flow.specs.Limits.{max_instructions, max_variables};
 ghost use Rattle.flow.specs.Inner.Reader.{max_numbers};
@@ -42,7 +42,7 @@ pub struct RunAnswer {
     pub m: PerInstruction,
 }
 
-// Kept: the arrays of a run are lent one by one; in a struct with methods on `&mut self`, which was proved too, a step took 1.3 times as long.
+// Kept: the arrays of a run are lent one by one; in a struct with methods on `&mut self`, which was proved too, a step took 1.3 times as long, where 1.05 is wanted.
 // The value of variable number u.
 fn value(variables: &Variables, u: usize) -> i32
     requires { (1 ≤ u) × (u ≤ max_variables) }
@@ -155,6 +155,7 @@ fn step(
     ensures { Stepped x records.now ends.now
         variables.old at.old variables.new at.new result }
 {
+    // Kept: a match on the kind, since each arm is a line of the table of instructions.
     match x.kind {
         Kind::Read => read_record(x, records, variables, at, ends),
         Kind::Put => straight(x, 2),

@@ -167,7 +167,7 @@ pub fn reads(
     for t in 0..last {
         let op = ops[index(place_on(cells, t))];
         let ended = place::ended(place_on(cells, t + 1), op.tape);
-        // Kept: the check does not cover a call whose array goes straight into a variable of the loop.
+        // Kept: tried as one line, and the proof did not close: the check does not cover a call whose array goes into a variable of the loop.
         let more = counted(counts, op, !ended);
         counts = more;
     }
