@@ -46,7 +46,7 @@ impl Instruction {
     }
 
     // The number in field k after the word.
-    // Kept: a match, since by `self.numbers()[k]` a run's step took 1.25 times as long, where 1.05 is wanted.
+    // Kept: a match on the field, since `self.numbers()[k]` builds an array of four for one number.
     pub fn number(self, k: usize) -> i32
         requires { k < max_numbers }
         ensures { result ≡ at (numbers_in self) k }
