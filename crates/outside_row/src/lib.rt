@@ -11,7 +11,7 @@ ghost use Rattle.outside_row.specs.Inner.Table.{rank_number, entries_for, IsEntr
 ghost use Rattle.outside_row.specs.Inner.Filling.{LoadedTo, ones_of};
 
 // The row, made once for a search: for each entry its index and its key.
-#[derive(Drop)]
+#[derive(Clone, Copy)]
 pub struct Table {
     row: [u16; Table::SIZE],
     ghost is: { IsTable row },
@@ -19,9 +19,9 @@ pub struct Table {
 
 impl Table {
     // The sizes of the row: how many slots there are, and where the keys end.
-    const SLOTS: usize = 4681;
+    pub const SLOTS: usize = 4681;
 
-    const SIZE: usize = 5043;
+    pub const SIZE: usize = 5043;
 
     pub fn new() -> Self {
         let mut row = [0; Table::SIZE];

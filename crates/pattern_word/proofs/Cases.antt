@@ -2,7 +2,7 @@
 -- answers by these laws.
 use mathlib.Core.Path.{◌≡◌, refl, ap, ap₂}
 use mathlib.Core.Bool.{Bool, true, false}
-use Prim.Native.Nat.{ℕ, ◌+◌, ◌-◌, ◌<◌, ◌≤◌}
+use Prim.Native.Nat.{ℕ, zero, suc, ◌+◌, ◌*◌, ◌-◌, ◌<◌, ◌≤◌}
 use native.Mathlib.Omega.{arith}
 use lib.IntN.{ℤ, pos, ◌+ℤ◌}
 use lib.Dec.{ltb, ltb→lt, lt→ltb}
@@ -93,3 +93,17 @@ cases w c d = go (lies (pos 0) w c) (lies (pos 0) w d)
 pub case_answer : (w c d : ℕ) {p q : Position} → p ≡ position_of (mark_of (pos 0) w c) → q ≡ position_of (mark_of (pos 0) w d)
     → by_positions p q c d ≡ less_of w c d
 case_answer w c d ep eq = rw (ep, eq) (cases w c d)
+
+-- ---- numbers of the cases
+-- where the cases are numbered, by three times the one position plus the other, each position from 0 to 2, there is no tenth: a number that is none
+-- of those below n is at least n
+abbrev pub NoneBelow : (n k : ℕ) → Type 0
+NoneBelow zero k = Unit {0}
+NoneBelow (suc n) k = NoneBelow n k × (k ≡ n → ⊥)
+
+past : (n k : ℕ) → NoneBelow n k → n ≤ k
+past zero k h = omega arith
+past (suc n) k (h, e) = let g = past n k h in omega arith
+
+pub no_case : {p q : ℕ} → p ≤ 2 → q ≤ 2 → NoneBelow 9 (3 * p + q) → ⊥
+no_case {p} {q} h k n = omega (arith, past 9 (3 * p + q) n)

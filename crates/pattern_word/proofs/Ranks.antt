@@ -50,20 +50,20 @@ module _ (p q : ℕ) (l : List ℕ) (i j n : ℕ) (next : j + 1 ≡ i) (h : j < 
   pub count-over : p ≤ get_or l j 0 → q < get_or l j 0 → n ≡ different_within p q (drop j l)
   count-over k m = counted-over n p q (get_or l j 0) (member (get_or l j 0) (drop i l)) k m ∙ sym turn
 
-  -- what is looked through is the rest of the values
-  module _ (four : length l ≡ 4) (b : Bool) (looked : b ≡ list_any (λ y. eqb y (get_or l j 0)) (take (4 - (j + 1)) (drop (j + 1) l))) where
+  -- what is looked through is the rest of the values: t of them from place k on
+  module _ (four : length l ≡ 4) (b : Bool) (k t : ℕ) (looked : b ≡ list_any (λ y. eqb y (get_or l j 0)) (take t (drop k l))) (from : k ≡ i) (to : 4 ≤ k + t) where
     again : b ≡ member (get_or l j 0) (drop i l)
     again =
-        looked ∙ ap (list_any (λ y. eqb y (get_or l j 0))) (rest ∙ ap (λ (k : ℕ). drop k l) next) ∙ member_any (get_or l j 0) (drop i l)
+        looked ∙ ap (list_any (λ y. eqb y (get_or l j 0))) (rest ∙ ap (λ (m : ℕ). drop m l) from) ∙ member_any (get_or l j 0) (drop i l)
       where
-        rest : take (4 - (j + 1)) (drop (j + 1) l) ≡ drop (j + 1) l
-        rest = take_all (4 - (j + 1)) (drop (j + 1) l) (omega (arith, length-drop (j + 1) l, four))
+        rest : take t (drop k l) ≡ drop k l
+        rest = take_all t (drop k l) (omega (arith, length-drop k l, four, to))
 
     pub count-again : p ≤ get_or l j 0 → get_or l j 0 ≤ q → b ≡ true → n ≡ different_within p q (drop j l)
-    count-again k m e = counted-again n p q (get_or l j 0) (member (get_or l j 0) (drop i l)) k m (sym again ∙ e) ∙ sym turn
+    count-again g m e = counted-again n p q (get_or l j 0) (member (get_or l j 0) (drop i l)) g m (sym again ∙ e) ∙ sym turn
 
     pub count-new : p ≤ get_or l j 0 → get_or l j 0 ≤ q → b ≡ false → n + 1 ≡ different_within p q (drop j l)
-    count-new k m e = counted-new n p q (get_or l j 0) (member (get_or l j 0) (drop i l)) k m (sym again ∙ e) ∙ sym turn
+    count-new g m e = counted-new n p q (get_or l j 0) (member (get_or l j 0) (drop i l)) g m (sym again ∙ e) ∙ sym turn
 
 pub count-end : (p q : ℕ) (l : List ℕ) (i : ℕ) → length l ≤ i → 0 ≡ different_within p q (drop i l)
 unfolding different_within

@@ -21,24 +21,25 @@ use outside_row::Table;
 // LOW stands for C1; BELOW is the greatest value below it, and BELOW + w stands for C2.
 pub const LOW: u64 = 16;
 
-const BELOW: u64 = 15;
+pub const BELOW: u64 = 15;
 
 // How many numbers a lane can hold; two lanes, and three.
-const LANE: u64 = 65536;
+pub const LANE: u64 = 65536;
 
-const LANES_2: u64 = LANE * LANE;
+pub const LANES_2: u64 = LANE * LANE;
 
-const LANES_3: u64 = LANE * LANES_2;
+pub const LANES_3: u64 = LANE * LANES_2;
 
 // How many ranks lie beyond an edge, and where the last above stands, to which w is added.
-const RANKS: u64 = Flow::MAX_VARIABLES as u64;
+pub const RANKS: u64 = Flow::MAX_VARIABLES as u64;
 
-const LAST_ABOVE: u64 = RANKS - 1;
+pub const LAST_ABOVE: u64 = RANKS - 1;
 
 // What the codes of a search rest on: w says how many whole numbers there are from C1 to C2, and the table has the ranks of variables outside.
-#[derive(Drop)]
-pub struct Coding {
-    table: Table,
+// The table is lent, and may serve any number of codings.
+#[derive(Clone, Copy)]
+pub struct Coding<'a> {
+    table: &'a Table,
     pub w: u64,
     ghost width: { Width w },
 }
@@ -128,15 +129,12 @@ pub fn first_trial(values: [u64; Flow::VARIABLES]) -> u64
     least - 1
 }
 
-impl Coding {
-    pub fn new(w: u64) -> Self
+impl<'a> Coding<'a> {
+    pub fn new(table: &'a Table, w: u64) -> Self
         requires { Width w }
         ensures { result.w ≡ w }
     {
-        Coding {
-            table: Table::new(),
-            w,
-        }
+        Coding { table, w }
     }
 
     // The code of x among the values.

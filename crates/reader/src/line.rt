@@ -1,5 +1,6 @@
 // One instruction line: what it shows before the numbers after its word, and the checks once these are read.
 ghost use Rattle.std.specs.Prelude.{◌≡◌, ◌≤◌, ◌<◌};
+ghost use Rattle.text.specs.Split.{split};
 ghost use Rattle.text.specs.Inner.Divided.{kept};
 ghost use Rattle.flow.specs.Limits.{max_instructions};
 ghost use Rattle.flow.specs.Code.{row};
@@ -11,7 +12,7 @@ use text::Fields;
 // The number without a minus in field k, as a byte keeps it, if it is well written.
 pub fn small_at(fields: &Fields, k: usize) -> Option<u8>
     requires { k < kept }
-    ensures { result ≡ small_at fields.now k }
+    ensures { result ≡ small_at (split fields.now.line.now) k }
 {
     let number = text::read_number(fields.get(k), false)?;
     Some(rows::small(number))
@@ -27,7 +28,7 @@ pub struct Start {
 // The checks before the numbers after the word, on the line after `count` instructions.
 pub fn begin(fields: &Fields, count: usize) -> Result<Start, Refusal>
     requires { count ≤ max_instructions }
-    ensures { result ≡ begin_line count fields.now }
+    ensures { result ≡ begin_line count (split fields.now.line.now) }
 {
     if count == Flow::MAX_INSTRUCTIONS {
         return Err(Refusal::TooManyLines);

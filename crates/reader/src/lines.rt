@@ -62,7 +62,8 @@ pub fn check_targets(instructions: &[Instruction]) -> Result<(), Refusal>
 {
     for (i, instruction) in instructions.iter().enumerate() {
         let named = instruction.is_named(instructions.len() as u8);
-        if !named {
+        let lost = !named;
+        if lost {
             return Err(Refusal::NoSuchTarget(i + 2));
         }
     }

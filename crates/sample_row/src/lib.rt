@@ -110,7 +110,10 @@ fn capped(lengths: &[usize], cap: usize) -> usize
 {
     let mut sum: usize = 0;
     for x in lengths {
-        sum = sum.saturating_add(*x).min(cap);
+        if cap - sum <= *x {
+            return cap;
+        }
+        sum += *x;
     }
     sum
 }

@@ -12,6 +12,7 @@ ghost use Rattle.tape_maker.specs.Inner.Plan.{Each};
 use crate::{ReportAnswer, planning};
 use cells::Cell;
 use flow::{Flow, Instruction, Refusal};
+use outside_row::Table;
 use pattern_word::Coding;
 
 // Which of the instructions have two exits.
@@ -35,7 +36,8 @@ fn report_flow(flow: Flow, cells: &mut [[u32; Cell::WORDS]]) -> Result<ReportAns
     ensures { FlowReport (flow_of flow) (cells_of cells.old) result }
 {
     let plan = planning::plan_of(flow);
-    let coding = Coding::new(plan.w);
+    let table = Table::new();
+    let coding = Coding::new(&table, plan.w);
     match search::search(cells, &coding, plan.program.ops, plan.start) {
         None => Err(Refusal::TooFewCells),
         Some(n) => {

@@ -12,6 +12,7 @@ ghost use Rattle.tape_maker.specs.Inner.Plan.{exits_at};
 use crate::planning;
 use cells::Cell;
 use flow::{Flow, Instruction, Refusal, lent};
+use outside_row::Table;
 use pattern_word::Coding;
 use sample::SampleAnswer;
 
@@ -44,7 +45,8 @@ fn sample_flow(
         return Err(Refusal::NoSuchExit);
     }
     let plan = planning::plan_of(flow);
-    let coding = Coding::new(plan.w);
+    let table = Table::new();
+    let coding = Coding::new(&table, plan.w);
     match search::search(cells, &coding, plan.program.ops, plan.start) {
         None => Err(Refusal::TooFewCells),
         Some(n) => {

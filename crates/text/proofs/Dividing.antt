@@ -138,10 +138,11 @@ module _ (line : List ℕ) (i count : ℕ) (ends : List ℕ) (s : Scanned line i
         others = λ k l m. others k (omega arith) m;
       }
 
-  pub scan-stored : length ends ≡ kept → count < kept → i < length line → get_or line i 0 ≡ 44 → Scanned line (i + 1) (count + 1) (set ends count i)
-  scan-stored size few h e =
-      scan_comma (set ends count i) h e (end-room ends count i size few)
-      (λ k l m. get_or-set_other ends count k i 0 (λ q. omega arith) ∙ s.others k (omega arith) m)
+  pub scan-stored : length ends ≡ kept → count < kept → i < length line → get_or line i 0 ≡ 44 →
+      {end : ℕ} → end ≡ i → Scanned line (i + 1) (count + 1) (set ends count end)
+  scan-stored size few h e is =
+      rw is (scan_comma (set ends count i) h e (end-room ends count i size few)
+      (λ k l m. get_or-set_other ends count k i 0 (λ q. omega arith) ∙ s.others k (omega arith) m))
 
   pub scan-counted : kept ≤ count → i < length line → get_or line i 0 ≡ 44 → Scanned line (i + 1) (count + 1) ends
   scan-counted many h e = scan_comma ends h e (no_room ends count i many) (λ k l m. absurd (omega arith))

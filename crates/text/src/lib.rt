@@ -1,47 +1,38 @@
 // Lines, fields and numbers of a byte text. Knows bytes only, and nothing of what the text says.
 #![tactic(auto)]
 
-ghost use Rattle.std.specs.Prelude.{◌≡◌, [], ◌+◌, ◌≤◌, ◌<◌, pos, length, get_or, drop};
-ghost use Rattle.std.specs.Prelude.{List, ℕ, option_map};
+ghost use Rattle.std.specs.Prelude.{◌≡◌, [], ◌+◌, ◌≤◌, ◌<◌, pos, length, get_or, drop, option_map};
 ghost use Rattle.text.specs.Split.{split};
 ghost use Rattle.text.specs.Inner.Divided.{kept, until, Divided};
 ghost use Rattle.text.specs.Number.{digits_after, natural, numeral};
 ghost use Rattle.text.specs.Inner.Capped.{capped};
 
-use std::marker::Model;
-
-// The ends of so many fields are kept; further ones are only counted.
-const KEPT: usize = 6;
-
 // A greater size of a number is given as this one.
 const CAP: u64 = 10000000000;
 
 // A line divided into its fields: how many it has, and where the first of them end.
-#[derive(Drop)]
+#[derive(Clone, Copy)]
 pub struct Fields<'a> {
-    line: &'a [u8],
-    count: usize,
-    ends: [usize; KEPT],
-}
-
-impl<'a> Model for Fields<'a> {
-    ghost Value = { List (List ℕ) };
-
-    ghost view = { λ f. split f.line.now };
-
-    ghost invariant = { λ f. Divided f.line.now f.count f.ends };
+    pub line: &'a [u8],
+    pub count: usize,
+    pub ends: [usize; Fields::KEPT],
+    pub ghost divided: { Divided line.now count ends },
 }
 
 impl<'a> Fields<'a> {
+    // The ends of so many fields are kept; further ones are only counted.
+    pub const KEPT: usize = 6;
+
     // Divides a line.
     pub fn new(line: &'a [u8]) -> Self
-        ensures { result ≡ split line.now }
+        ensures same_line { result.line.now ≡ line.now }
+        ensures divided { Divided line.now result.count result.ends }
     {
-        let mut ends = [line.len(); KEPT];
+        let mut ends = [line.len(); Fields::KEPT];
         let mut commas = 0;
         for (i, b) in line.iter().enumerate() {
             if *b == b',' {
-                if commas < KEPT {
+                if commas < Fields::KEPT {
                     ends[commas] = i;
                 }
                 commas += 1;
@@ -56,7 +47,7 @@ impl<'a> Fields<'a> {
 
     // How many fields the line has.
     pub fn count(&self) -> usize
-        ensures { result ≡ length self.now }
+        ensures { result ≡ length (split self.now.line.now) }
     {
         self.count
     }
@@ -64,7 +55,7 @@ impl<'a> Fields<'a> {
     // Field k, counted from 0; the empty part where there is none.
     pub fn get(&self, k: usize) -> &'a [u8]
         requires { k < kept }
-        ensures { result.now ≡ get_or self.now k [] }
+        ensures { result.now ≡ get_or (split self.now.line.now) k [] }
     {
         if k >= self.count {
             return &[];

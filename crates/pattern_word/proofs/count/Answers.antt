@@ -21,13 +21,13 @@ overflow_add-n c = let l = c.loop-i in record { fits = omega (arith, l.invariant
 
 pub loop-i-preserved-then-not-contains : goal.loop-i-preserved-then-not-contains
 loop-i-preserved-then-not-contains c = let l = c.loop-i in
-    ranks.count-new c.args.p c.args.q c.args.values l.i (l.i - 1) _ (omega (arith, c.loop-i-test.true)) (search rules) l.invariant (search rules) _ c.contains.ensures.value
+    ranks.count-new c.args.p c.args.q c.args.values l.i (l.i - 1) _ (omega (arith, c.loop-i-test.true)) (search rules) l.invariant (search rules) _ _ _ c.contains.ensures.value (omega (arith, c.loop-i-test.true)) (omega (arith, c.loop-i-test.true))
     c.if-p-x.true c.if-x-q.true c.if-not-contains.true
 
 pub loop-i-preserved : goal.loop-i-preserved
 loop-i-preserved c = let l = c.loop-i in elim c.else-p-x.branch [
   | else-p-x-via-then-p-x+then-x-q+else-not-contains w ↦
-      ranks.count-again c.args.p c.args.q c.args.values l.i (l.i - 1) _ (omega (arith, c.loop-i-test.true)) (search rules) l.invariant (search rules) _ w.contains.ensures.value
+      ranks.count-again c.args.p c.args.q c.args.values l.i (l.i - 1) _ (omega (arith, c.loop-i-test.true)) (search rules) l.invariant (search rules) _ _ _ w.contains.ensures.value (omega (arith, c.loop-i-test.true)) (omega (arith, c.loop-i-test.true))
       w.if-p-x.true w.if-x-q.true w.if-not-contains.false
   | else-p-x-via-then-p-x+else-x-q w ↦
       ranks.count-over c.args.p c.args.q c.args.values l.i (l.i - 1) _ (omega (arith, c.loop-i-test.true)) (search rules) l.invariant w.if-p-x.true w.if-x-q.false

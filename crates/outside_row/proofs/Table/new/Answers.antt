@@ -12,13 +12,13 @@ unfolding ones_of
 loop-v-init c = (fill_first _ refl, refl)
 
 pub overflow_mul-ones : goal.overflow_mul-ones
-overflow_mul-ones c = record { fits = omega (arith, ones_few _ _ c.loop-v-test.true c.loop-v.invariant.1) }
+overflow_mul-ones c = record { fits = omega (arith, ones_few _ _ (omega (arith, c.loop-v-test.true)) c.loop-v.invariant.1) }
 
 pub overflow_add-ones : goal.overflow_add-ones
-overflow_add-ones c = record { fits = omega (arith, ones_few _ _ c.loop-v-test.true c.loop-v.invariant.1) }
+overflow_add-ones c = record { fits = omega (arith, ones_few _ _ (omega (arith, c.loop-v-test.true)) c.loop-v.invariant.1) }
 
 pub load-requires-clause-le_v : goal.load-requires-clause-le_v
-load-requires-clause-le_v c = let l = c.loop-v in (l.auto.v, c.loop-v-test.true, ones_next _ _ _ (omega (arith, l.auto.v)) l.invariant.1)
+load-requires-clause-le_v c = let l = c.loop-v in (l.auto.v, omega (arith, c.loop-v-test.true), ones_next _ _ _ (omega (arith, l.auto.v)) l.invariant.1)
 
 pub loop-v-preserved : goal.loop-v-preserved
 loop-v-preserved c = let l = c.loop-v in (c.load.ensures, ones_next _ _ _ (omega (arith, l.auto.v)) l.invariant.1)

@@ -16,20 +16,20 @@ use Rattle.reader.proofs.lines.read_head.Goals as goal
 
 -- its word is the right one
 worded : (c : Else-ne) → same_word (get_or (split c.args.line.now) 0 []) (bytes "flow") ≡ true
-worded c = not-false _ (sym (rw (c.as_slice.ensures, same_word_eq, c.get.ensures, c.new-fields.ensures) at c.if-ne.ensures))
+worded c = not-false _ (sym (rw (c.as_slice.ensures, same_word_eq, c.get.ensures, c.new-fields.ensures.same_line) at c.if-ne.ensures))
 
 -- its fields are counted
 counted : (c : Else-count-ne4) → eqb (length (split c.args.line.now)) 4 ≡ true
-counted c = rw (← c.new-fields.ensures, ← c.count.ensures) (eq-eqb _ _ c.if-count-ne4.false)
+counted c = rw (← c.new-fields.ensures.same_line, ← c.count.ensures) (eq-eqb _ _ c.if-count-ne4.false)
 
 pub returns-then-ne : goal.returns-then-ne
 returns-then-ne c =
-    let other = not-true _ (sym (rw (c.as_slice.ensures, same_word_eq, c.get.ensures, c.new-fields.ensures) at c.if-ne.ensures)) in
+    let other = not-true _ (sym (rw (c.as_slice.ensures, same_word_eq, c.get.ensures, c.new-fields.ensures.same_line) at c.if-ne.ensures)) in
     rw (head_steps, other)
 
 pub returns-then-count-ne4 : goal.returns-then-count-ne4
 returns-then-count-ne4 c =
-    rw (head_steps, worded (goal.at.returns-then-count-ne4 c).Else-ne, ← c.new-fields.ensures, ← c.count.ensures, ne_eqb _ _ c.if-count-ne4.true)
+    rw (head_steps, worded (goal.at.returns-then-count-ne4 c).Else-ne, ← c.new-fields.ensures.same_line, ← c.count.ensures, ne_eqb _ _ c.if-count-ne4.true)
 
 pub returns-in_err-tapes : goal.returns-in_err-tapes
 returns-in_err-tapes c =
@@ -39,7 +39,7 @@ returns-in_err-tapes c =
       head_steps,
       worded at.Else-ne,
       counted at.Else-count-ne4,
-      ← c.new-fields.ensures,
+      ← c.new-fields.ensures.same_line,
       ← c.small_at.ensures,
       ← c.in_err-tapes.ensures.value,
     )
@@ -52,7 +52,7 @@ returns-in_err-outputs c =
       head_steps,
       worded at.Else-ne,
       counted at.Else-count-ne4,
-      ← c.new-fields.ensures,
+      ← c.new-fields.ensures.same_line,
       ← c.small_at.ensures,
       ← c.in_ok-tapes.ensures.value,
       ← c.small_at-2.ensures,
@@ -67,7 +67,7 @@ returns-in_err-variables c =
       head_steps,
       worded at.Else-ne,
       counted at.Else-count-ne4,
-      ← c.new-fields.ensures,
+      ← c.new-fields.ensures.same_line,
       ← c.small_at.ensures,
       ← c.in_ok-tapes.ensures.value,
       ← c.small_at-2.ensures,
@@ -83,7 +83,7 @@ returns c =
       head_steps,
       worded at.Else-ne,
       counted at.Else-count-ne4,
-      ← c.new-fields.ensures,
+      ← c.new-fields.ensures.same_line,
       ← c.small_at.ensures,
       ← c.in_ok-tapes.ensures.value,
       ← c.small_at-2.ensures,

@@ -10,6 +10,7 @@ use mir.Syntax.{w32, w64}
 use mir.Val.{SFits, to_z, of_z}
 use mir.Facts.{to_z-of_z}
 use Rattle.std.specs.Prelude.{Ok, Err, option_map}
+use Rattle.text.specs.Split.{split}
 use Rattle.text.specs.Number.{numeral}
 use Rattle.text.specs.Inner.Capped.{capped}
 use Rattle.flow.specs.Words.{sorts, may_minus}
@@ -23,20 +24,20 @@ use Rattle.reader.proofs.lines.read_lines.Goals.{After-new-fields, In_ok-start, 
 use Rattle.reader.proofs.lines.read_lines.Goals as goal
 
 -- a line that is refused
-fault : (c : After-new-fields) (r : Refusal) → laws.line_stepped c.args.head c.loop-at.count c.new-fields.result ≡ Err r → Err r ≡ laws.kept_lines c.args.head c.args.text.now
+fault : (c : After-new-fields) (r : Refusal) → laws.line_stepped c.args.head c.loop-at.count (split c.new-fields.result.line.now) ≡ Err r → Err r ≡ laws.kept_lines c.args.head c.args.text.now
 fault c r e =
-    sym (laws.lines-fault c.loop-at.invariant.3 c.requires c.loop-at-test.true c.end_of-end.result c.end_of-end.ensures.0 c.new-fields.result c.new-fields.ensures r e)
+    sym (laws.lines-fault c.loop-at.invariant.3 c.requires c.loop-at-test.true c.end_of-end.result c.end_of-end.ensures.0 (split c.new-fields.result.line.now) (ap split c.new-fields.ensures.same_line) r e)
 
 -- one that shows no fault before its numbers is not one too many, and has the fields that its word asks for
-begun : (c : In_ok-start) → (c.loop-at.count < 64) × (length c.new-fields.result ≡ length (sorts c.in_ok-start.start.kind) + 2)
-begun c = laws.begun c.loop-at.count c.new-fields.result c.in_ok-start.start (sym c.in_ok-start.ensures)
+begun : (c : In_ok-start) → (c.loop-at.count < 64) × (length (split c.new-fields.result.line.now) ≡ length (sorts c.in_ok-start.start.kind) + 2)
+begun c = laws.begun c.loop-at.count (split c.new-fields.result.line.now) c.in_ok-start.start (sym c.in_ok-start.ensures)
 
 -- one of its numbers
 within : (c : In-loop-k) → c.loop-k.k < length (sorts c.in_ok-start.start.kind)
 within c = subst (λ (ss : List Sort). c.loop-k.k < length ss) c.sorts-sort-items.ensures c.loop-k-test.true
 
 number : (c : After-read_number-number)
-    → option_map capped (numeral (may_minus (get_or (sorts c.in_ok-start.start.kind) c.loop-k.k Target)) (get_or c.new-fields.result (c.loop-k.k + 2) [])) ≡ c.read_number-number.result
+    → option_map capped (numeral (may_minus (get_or (sorts c.in_ok-start.start.kind) c.loop-k.k Target)) (get_or (split c.new-fields.result.line.now) (c.loop-k.k + 2) [])) ≡ c.read_number-number.result
 number c =
     let minus = c.may_minus.ensures ∙ ap (λ (ss : List Sort). may_minus (get_or ss c.loop-k.k Target)) c.sorts-sort-items.ensures in
     sym (c.read_number-number.ensures ∙ ap₂ (λ (m : Bool) (f : List ℕ). option_map capped (numeral m f)) minus c.get.ensures)
@@ -48,7 +49,7 @@ read c = subst (λ (ss : List Sort). length ss ≤ c.loop-k.k) c.sorts-sort-item
 pub returns-in_err-start : goal.returns-in_err-start
 returns-in_err-start c =
     laws.left_by _ c.from_residual.ensures.1
-    ∙ fault (goal.at.returns-in_err-start c).After-new-fields _ (laws.stepped_start c.args.head c.loop-at.count c.new-fields.result _ (sym c.in_err-start.ensures))
+    ∙ fault (goal.at.returns-in_err-start c).After-new-fields _ (laws.stepped_start c.args.head c.loop-at.count (split c.new-fields.result.line.now) _ (sym c.in_err-start.ensures))
 
 pub returns-in_err-ok_or : goal.returns-in_err-ok_or
 returns-in_err-ok_or c =
@@ -57,7 +58,7 @@ returns-in_err-ok_or c =
     let bad = laws.numbers_bad c.loop-k.invariant (within at.In-loop-k) (begun at.In_ok-start).1 (number at.After-read_number-number ∙ none) in
     laws.left_by _ c.from_residual-in_err-ok_or.ensures.1
     ∙ sym (ap Err is)
-    ∙ fault at.After-new-fields _ (laws.stepped_bad c.args.head c.loop-at.count c.new-fields.result c.in_ok-start.start (sym c.in_ok-start.ensures) bad)
+    ∙ fault at.After-new-fields _ (laws.stepped_bad c.args.head c.loop-at.count (split c.new-fields.result.line.now) c.in_ok-start.start (sym c.in_ok-start.ensures) bad)
 
 pub loop-k-preserved : goal.loop-k-preserved
 loop-k-preserved c =
@@ -74,7 +75,7 @@ returns-in_err-instruction c =
     let at = goal.at.returns-in_err-instruction c in
     laws.left_by _ c.from_residual-in_err-instruction.ensures.1
     ∙ fault at.After-new-fields _
-    (laws.stepped-end c.args.head c.loop-at.count c.new-fields.result c.in_ok-start.start (sym c.in_ok-start.ensures) c.loop-k.invariant (read at.After-loop-k)
+    (laws.stepped-end c.args.head c.loop-at.count (split c.new-fields.result.line.now) c.in_ok-start.start (sym c.in_ok-start.ensures) c.loop-k.invariant (read at.After-loop-k)
     ∙ sym c.in_err-instruction.ensures)
 
 pub store-requires : goal.store-requires
@@ -85,13 +86,13 @@ loop-at-preserved c =
     let at = goal.at.loop-at-preserved c in
     let few = (begun at.In_ok-start).0 in
     let e =
-    laws.stepped-end c.args.head c.loop-at.count c.new-fields.result c.in_ok-start.start (sym c.in_ok-start.ensures) c.loop-k.invariant (read at.After-loop-k)
+    laws.stepped-end c.args.head c.loop-at.count (split c.new-fields.result.line.now) c.in_ok-start.start (sym c.in_ok-start.ensures) c.loop-k.invariant (read at.After-loop-k)
     ∙ sym c.in_ok-instruction.ensures in (
       omega (arith, c.end_of-end.ensures.1),
       omega (arith, few),
       ap length c.store.ensures ∙ simp length-set c.loop-at.invariant.2,
       rw c.store.ensures
-          (laws.lines_more c.loop-at.invariant.3 c.requires c.loop-at-test.true c.end_of-end.result c.end_of-end.ensures.0 c.new-fields.result c.new-fields.ensures _ few e),
+          (laws.lines_more c.loop-at.invariant.3 c.requires c.loop-at-test.true c.end_of-end.result c.end_of-end.ensures.0 (split c.new-fields.result.line.now) (ap split c.new-fields.ensures.same_line) _ few e),
     )
 
 pub returns : goal.returns

@@ -2,6 +2,7 @@
 use mathlib.Core.Path.{sym, ap, ◌∙◌, subst⁻¹}
 use mathlib.Core.List.{List}
 use Prim.Native.Nat.{ℕ, ◌≤◌}
+use borrow.Author.Rules.{rules}
 use lib.ListN.{length}
 use Rattle.model.specs.Tapes.{total}
 use Rattle.interpreter.specs.Run.{Outcome, row_run, ran_of, written, tapes_put, values_put}
@@ -14,11 +15,11 @@ pub returns-then-lengths-flow : goal.returns-then-lengths-flow
 unfolding flow_of
 returns-then-lengths-flow c = let a = c.args in
     elim c.then-lengths-flow.branch [
-      | then-lengths-flow-via-then-lengths-flow w ↦ refused_is _ _ _ _
-          (wrong_count (flow_of a.flow) a.limit a.records.now a.lengths.now a.numbers.now a.values.now w.if-lengths-flow.true)
-      | then-lengths-flow-via-else-lengths-flow+then-not-adds_up w ↦ refused_is _ _ _ _
+      | then-lengths-flow-via-then-lengths-flow w ↦ refused_is _ _ _ _ _ _
+          (wrong_count (flow_of a.flow) a.limit a.records.now a.lengths.now a.numbers.now a.values.now w.if-lengths-flow.true) (search rules) (search rules)
+      | then-lengths-flow-via-else-lengths-flow+then-not-adds_up w ↦ refused_is _ _ _ _ _ _
           (wrong_sum (flow_of a.flow) a.limit a.records.now a.lengths.now a.numbers.now a.values.now w.if-lengths-flow.false
-          (sym w.adds_up.ensures ∙ w.if-not-adds_up.true))
+          (sym w.adds_up.ensures ∙ w.if-not-adds_up.true)) (search rules) (search rules)
     ]
 
 pub run-requires-clause-lengths_in_bounds : goal.run-requires-clause-lengths_in_bounds
