@@ -18,7 +18,7 @@ run_from-requires c = record { legal = c.requires.legal; limit_le_max_steps = om
 pub returns : goal.returns
 returns c = let is = held-is c.args.records.now c.args.lengths (long (goal.at.returns c).After-min-cells) c.requires.lengths_in_bounds
     c.args.flow c.args.limit c.args.numbers.now c.args.values.now
-    c.min-cells.result c.min-most.result c.min-cells.ensures c.min-most.ensures in record { value = c.run_from.ensures.value ∙ ap ran_of is; numbers_after = c.run_from.ensures.numbers_after ∙ ap (λ (w : Outcome). written (tapes_put w) c.args.numbers.now) is; values_after = c.run_from.ensures.values_after ∙ ap (λ (w : Outcome). written (values_put w) c.args.values.now) is }
+    c.min-cells.result c.min-most.result (omega (arith, c.min-cells.ensures)) c.min-most.ensures in record { value = c.run_from.ensures.value ∙ ap ran_of is; numbers_after = c.run_from.ensures.numbers_after ∙ ap (λ (w : Outcome). written (tapes_put w) c.args.numbers.now) is; values_after = c.run_from.ensures.values_after ∙ ap (λ (w : Outcome). written (values_put w) c.args.values.now) is }
 
 pub overflow_add-b : goal.overflow_add-b
 overflow_add-b c = omega (arith, ends_in c.args.records.now c.args.lengths (long (goal.at.overflow_add-b c).After-min-cells) c.requires.lengths_in_bounds)
